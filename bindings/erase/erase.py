@@ -57,8 +57,8 @@ ASSOCIATED = {
     "u32::from", "u64::MAX", "u64::from", "usize::MAX", "usize::from", "u8x16::from_slice", "u8x16::splat",
 }
 # Methods of types of other crates. Each was compared with the method of Rust.
-METHODS = set("""and_then as_array as_object as_slice as_str as_u64 checked_add checked_mul checked_sub clone cmp contains
-    copied copy_from_slice copy_within enumerate extend_from_slice first first_chunk flush get ilog2 insert into
+METHODS = set("""and_then as_array as_object as_slice as_str as_u64 capacity checked_add checked_mul checked_sub clone cmp
+    contains copied copy_from_slice copy_within enumerate extend_from_slice first first_chunk flush get ilog2 insert into
     is_ascii_digit is_empty is_none is_null is_power_of_two is_some iter last len max min next
     next_back ok ok_or partition_point pop pop_first push range read remove reserve rotate_left saturating_add
     saturating_sub simd_eq split_at split_first split_last take to_bitmask trailing_zeros truncate unwrap

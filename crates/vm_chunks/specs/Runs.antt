@@ -6,7 +6,7 @@ use Rattle.std.specs.BTreeSet.{BTreeSet, contains}
 use Rattle.vm_chunks.specs.declared.id_set.Run.{Run}
 use Rattle.vm_chunks.specs.declared.chunk.runs.Added.{Added}
 use Rattle.vm_chunks.specs.declared.chunk.runs.Added.TheVariants.{Known, Elsewhere, New, Joined}
-use Rattle.vm_chunks.specs.Entries.{at_or_above, highest_below, with_entry, without_some}
+use Rattle.vm_chunks.specs.Entries.{IsPlaceFrom, at_or_above, highest_below, with_entry, without_some}
 
 -- Two more than the highest id.
 abbrev pub RUNS_END : ℕ
@@ -118,10 +118,16 @@ abbrev pub HasNext : ℕ → Bool → Bool → List Run → Type 0
 HasNext id is_first is_last rs =
     (IsTrue is_first ⊎ IsSome (at_or_above last_of id rs)) × (IsTrue is_last ⊎ IsSome (highest_below last_of id rs))
 
--- An id is added to the runs of one chunk, unless they do not show both runs next to the id, or are 64.
+-- No run has the id, and none is right above or right below it.
+abbrev pub IsApart : ℕ → List Run → Type 0
+IsApart id rs =
+    LacksId id (at_or_above last_of id rs)
+    × ((at : ℕ) → IsPlaceFrom last_of id at rs → (¬ IsRightAbove id at rs) × (¬ IsRightBelow id at rs))
+
+-- An id is added to the runs of one chunk, unless they do not show both runs next to the id, or it joins none.
 abbrev pub AddsNear : ℕ → Bool → Bool → Added → List Run → List Run → Type 0
 AddsNear id f l Known old new = HasId id (at_or_above last_of id old) × HasNext id f l old × (new ≡ old)
-AddsNear id f l Elsewhere old new = (HasNext id f l old → 64 ≤ length old) × (new ≡ old)
+AddsNear id f l Elsewhere old new = (HasNext id f l old → IsApart id old) × (new ≡ old)
 AddsNear id f l New old new = AddsId id true old new × HasNext id f l old × (length old ≤ length new)
 AddsNear id f l Joined old new = AddsId id true old new × HasNext id f l old
 

@@ -1,4 +1,4 @@
-//! A chunk: at most 64 entries, with memory for 64. Only creating it can fail.
+//! A chunk: at most 64 entries. A new one has memory for 8, and grows once.
 ghost use Rattle.std.specs.Prelude.{
   ◌≡◌,
   ◌<◌,
@@ -13,10 +13,13 @@ ghost use Rattle.std.specs.Prelude.{
   List,
   None,
   IsSome,
+  IsTrue,
+  false,
   IfNone,
   MatchOption,
   slice_index_or,
   IfOk,
+  OnOk,
   OnErr,
   vec_capacity,
 };
@@ -42,6 +45,9 @@ use std::marker::Model;
 /// The maximum number of entries of a chunk.
 pub const MAX_ENTRIES: usize = 64;
 
+/// The number of entries for which a new chunk has memory. Many lists stay so short.
+const FIRST_ENTRIES: usize = 8;
+
 /// The entries next to a key.
 #[derive(Clone, Copy)]
 pub struct Gap<E: Entry> {
@@ -51,7 +57,7 @@ pub struct Gap<E: Entry> {
     pub below: Option<E>,
 }
 
-/// At most 64 entries, with memory for 64.
+/// At most 64 entries, with memory for 8 or for 64.
 ///
 /// Its model is the list of its entries.
 #[derive(Debug, Drop)]
@@ -60,13 +66,26 @@ pub struct Chunk<E: Entry> {
 }
 
 impl<E: Entry> Model for Chunk<E> {
-    ghost use Rattle.std.specs.Prelude.{List, ◌≤◌, length, vec_capacity};
+    ghost use Rattle.std.specs.Prelude.{List, ◌≤◌, length};
 
     ghost Value = { List E };
 
     ghost view = { λ c. c.entries.items };
 
-    ghost invariant = { λ c. (length c.entries.items ≤ 64) × (64 ≤ vec_capacity c.entries) };
+    ghost invariant = { λ c. length c.entries.items ≤ 64 };
+}
+
+/// Returns a copy of the entries, with this capacity. It allocates once.
+fn copied<E: Entry>(alloc: Global, entries: &[E], capacity: usize) -> Result<Vec<E>, AllocError>
+    requires { length entries.now ≤ capacity }
+    ensures items { IfOk result (λ copy. copy.items ≡ entries.now) }
+    ensures capacity { IfOk result (λ copy. capacity ≤ vec_capacity copy) }
+{
+    let mut copy = Vec::with_capacity(alloc, capacity)?;
+    let Ok(()) = copy.extend_from_slice(entries) else {
+        unreachable!()
+    };
+    Ok(copy)
 }
 
 impl<E: Entry> Chunk<E> {
@@ -74,18 +93,16 @@ impl<E: Entry> Chunk<E> {
     pub fn new(alloc: Global) -> Result<Self, AllocError>
         ensures { IfOk result (λ chunk. chunk ≡ []) }
     {
-        let entries = Vec::with_capacity(alloc, MAX_ENTRIES)?;
+        let entries = Vec::with_capacity(alloc, FIRST_ENTRIES)?;
         Ok(Chunk { entries })
     }
 
-    /// Returns a copy. It allocates once.
+    /// Returns a copy with as much memory. It allocates once.
     pub fn try_clone(&self, alloc: Global) -> Result<Self, AllocError>
         ensures { IfOk result (λ chunk. chunk ≡ self.now) }
     {
-        let mut entries = Vec::with_capacity(alloc, MAX_ENTRIES)?;
-        let Ok(()) = entries.extend_from_slice(self.entries.as_slice()) else {
-            unreachable!()
-        };
+        let capacity = self.entries.capacity();
+        let entries = copied(alloc, self.entries.as_slice(), capacity)?;
         Ok(Chunk { entries })
     }
 
@@ -159,17 +176,23 @@ impl<E: Entry> Chunk<E> {
         self.entries[at] = entry;
     }
 
-    /// Inserts an entry with a new key. It does not allocate.
-    pub fn insert(&mut self, entry: E)
+    /// Inserts an entry with a new key. It allocates at most once. An error changes nothing.
+    pub fn insert(&mut self, alloc: Global, entry: E) -> Result<(), AllocError>
         requires order { IsDescendingBy E.key_of self.old }
         requires new { entry_at E.key_of (E.key_of entry) self.old ≡ None }
         requires room { length self.old < 64 }
-        ensures { self.new ≡ with_entry E.key_of entry self.old }
+        ensures inserted { OnOk result (self.new ≡ with_entry E.key_of entry self.old) }
+        ensures unchanged { OnErr result (self.new ≡ self.old) }
     {
+        if self.entries.len() == self.entries.capacity() {
+            // In a cold cache, this takes less time than reallocating.
+            self.entries = copied(alloc, self.entries.as_slice(), MAX_ENTRIES)?;
+        }
         let at = place(self.entries.as_slice(), entry.key());
         let Ok(()) = self.entries.insert(at, entry) else {
             unreachable!()
         };
+        Ok(())
     }
 
     /// Returns the entries next to a key.
@@ -206,28 +229,33 @@ impl<E: Entry> Chunk<E> {
         None
     }
 
-    /// Moves the entries from `at` on to a new chunk. An error changes nothing.
+    /// Moves the entries from `at` on to a new chunk with memory for 64. An error changes nothing.
     pub fn split(&mut self, alloc: Global, at: usize) -> Result<Self, AllocError>
         requires { at ≤ length self.old }
         ensures upper { IfOk result (λ lower. self.new ≡ take at self.old) }
         ensures lower { IfOk result (λ lower. lower ≡ drop at self.old) }
         ensures unchanged { OnErr result (self.new ≡ self.old) }
     {
-        let mut entries = Vec::with_capacity(alloc, MAX_ENTRIES)?;
-        let Ok(()) = entries.extend_from_slice(&self.entries[at..]) else {
-            unreachable!()
-        };
+        let entries = copied(alloc, &self.entries[at..], MAX_ENTRIES)?;
         self.entries.truncate(at);
         Ok(Chunk { entries })
     }
 
-    /// Appends the entries of another chunk. It does not allocate.
-    pub fn append(&mut self, other: &Self)
+    /// Appends the entries of another chunk, and returns `true`. Returns `false` and changes nothing if it has no
+    /// memory for them. It does not allocate.
+    pub fn append(&mut self, other: &Self) -> bool
         requires { length self.old + length other.now ≤ 64 }
-        ensures { self.new ≡ self.old ++ other.now }
+        ensures appended { IsTrue result → self.new ≡ self.old ++ other.now }
+        ensures unchanged { result ≡ false → self.new ≡ self.old }
+        ensures empty { other.now ≡ [] → IsTrue result }
     {
+        let room = self.entries.capacity() - self.entries.len();
+        if room < other.len() {
+            return false;
+        }
         let Ok(()) = self.entries.extend_from_slice(other.entries.as_slice()) else {
             unreachable!()
         };
+        true
     }
 }

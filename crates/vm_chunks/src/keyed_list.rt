@@ -166,7 +166,7 @@ impl<E: Entry> KeyedList<E> {
         ensures unchanged { OnErr result (self.new ≡ self.old) }
     {
         match &mut self.few {
-            Some(chunk) if chunk.len() < MAX_ENTRIES => chunk.insert(entry),
+            Some(chunk) if chunk.len() < MAX_ENTRIES => chunk.insert(alloc, entry)?,
             Some(chunk) => {
                 let mut many = Chunks::of(alloc, chunk)?;
                 many.insert(alloc, entry)?;
@@ -175,7 +175,7 @@ impl<E: Entry> KeyedList<E> {
             }
             None if self.many.highest().is_none() => {
                 let mut chunk = Chunk::new(alloc)?;
-                chunk.insert(entry);
+                chunk.insert(alloc, entry)?;
                 self.few = Some(chunk);
                 self.many = Chunks::new(alloc);
             }

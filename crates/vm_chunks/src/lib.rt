@@ -1,8 +1,9 @@
 //! Lists of entries in descending order of their keys, in chunks of at most 64 entries, and sets of ids.
 //!
-//! A list begins as one chunk, which takes one allocation. Once that is full, the list has bounds: a call finds the
-//! chunk of a key by them, and then the entry in the chunk. A change moves the entries of one chunk, and sometimes splits it
-//! or joins it with one next to it. The lowest entry is at the end of the last chunk, so removing it moves nothing.
+//! A list begins as one chunk, with memory for 8 entries and later for 64. Once that is full, the list has bounds: a call
+//! finds the chunk of a key by them, and then the entry in the chunk. A change moves the entries of one chunk, and
+//! sometimes splits it or joins it with one next to it. The lowest entry is at the end of the last chunk, so removing it
+//! moves nothing.
 //!
 //! # How a list is stated
 //!
@@ -18,8 +19,7 @@
 //! # What is proved
 //!
 //! - The exact result of each call, and the list after it. Keys are different and descend.
-//! - An error changes nothing, and only `insert` and `try_clone` of a list have one. An insertion allocates before it
-//!   changes an entry, because each chunk has memory for 64 entries.
+//! - An error changes nothing, and only `insert` and `try_clone` of a list have one.
 //! - An iterator returns each entry once, in order, from both ends.
 //! - The number of ids of a set, which is stored.
 //! - The list after a call is the map with the changed key (`EntriesAreByKey`).

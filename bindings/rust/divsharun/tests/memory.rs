@@ -241,6 +241,8 @@ fn main() {
     no_request_is_made();
     items_without_memory();
     lists_have_no_spare_bytes();
+    short_lists_take_few_bytes();
+    chunks_are_joined();
     ranges_take_few_bytes();
     processes_are_ended();
     println!("each allocation is counted, and failed in turn");
@@ -380,16 +382,12 @@ fn objects_stay_the_same() {
         ids.try_allocate_ids(899)
     });
     assert!(ids.held_ids().eq(0..901));
-    // Each id within a run splits it, until a chunk has no room for a further run.
-    let mut ids = IdAllocator::with_held(0, 900, &[900]).expect("ids");
-    for id in 1..64 {
-        assert_eq!(refusing(1, || ids.try_allocate_exact(4 * id)).0, Ok(4 * id));
-    }
-    let refused = refusing(1, || ids.try_allocate_exact(600)).0;
-    assert_eq!(refused, Err(TryError::OutOfMemory));
-    unchanged_until_allowed(&mut ids, IdAllocator::clone, |ids| {
-        ids.try_allocate_exact(600)
-    });
+    // Each id within a run splits it.
+    let ids = IdAllocator::with_held(0, 900, &[900]).expect("ids");
+    memory_for_runs(ids, IdAllocator::try_allocate_exact);
+    let mut ids = IdAllocator::new(0, 900).expect("ids");
+    assert!(ids.allocate_ids(900).is_ok() && ids.free_id(0).is_ok());
+    memory_for_runs(ids, IdAllocator::try_free_id);
     let mut devices = DeviceManager::new(0, 1, 0, 64).expect("a manager");
     unchanged_until_allowed(&mut devices, DeviceManager::clone, |devices| {
         devices.try_reserve(1, 1, FirstMatch)
@@ -417,6 +415,19 @@ fn objects_stay_the_same() {
         devices.try_move_constraint(0, in_the_middle(4, LastMatch))
     });
     assert_eq!(devices.slot(0).map(|range| range.start()), Some(34));
+}
+
+/// Checks that the free ids, which are one run, have memory for 8 runs and then for 64. Each call adds a run.
+fn memory_for_runs(mut ids: IdAllocator, call: fn(&mut IdAllocator, u32) -> Result<u32, TryError>) {
+    for id in (4..4 * 64).step_by(4).chain([600]) {
+        if id == 4 * 8 || id == 600 {
+            let refused = refusing(1, || call(&mut ids, id)).0;
+            assert_eq!(refused, Err(TryError::OutOfMemory));
+            unchanged_until_allowed(&mut ids, IdAllocator::clone, |ids| call(ids, id));
+        } else {
+            assert_eq!(refusing(1, || call(&mut ids, id)).0, Ok(id));
+        }
+    }
 }
 
 /// Makes a call with its first allocation failing, then with its second, until it succeeds. An error
@@ -568,10 +579,31 @@ fn lists_have_no_spare_bytes() {
     assert!(requests.iter().all(&mut reserve));
     let (_, bytes) = peak_of(|| devices.clone());
     assert!(bytes < 60 * COUNT, "{bytes} bytes");
-    // A chunk has memory for 64 entries: of 24 bytes for devices, of 16 for their starts, of 8 for freed ids.
+}
+
+/// Checks that the first entry of a list allocates memory for 8: of 24 bytes for devices, of 16 for their starts,
+/// of 8 for freed ids.
+fn short_lists_take_few_bytes() {
+    let (ids, bytes) = peak_of(one_free_id);
+    assert_eq!(bytes, 8 * 8);
+    let (_, bytes) = peak_of(|| ids.clone());
+    assert_eq!(bytes, 8 * 8);
     let (_, bytes) =
         peak_of(|| reserve_and_release(|devices| devices.reserve(1, 1, FirstMatch).is_ok()));
-    assert!(bytes < 64 * (24 + 16 + 8) + 1024, "{bytes} bytes");
+    assert_eq!(bytes, LEAF + 8 * (24 + 16 + 8));
+}
+
+/// Checks that chunks of freed ids are joined if both fit in half a chunk, when most of a thousand ids are
+/// allocated again. So the 63 others are in fewer than four chunks, each with at most 32 bytes in lists.
+fn chunks_are_joined() {
+    let mut ids = IdAllocator::new(0, 2000).expect("ids");
+    assert!(ids.allocate_ids(2000).is_ok());
+    let mut even = (0..2000).step_by(2);
+    assert!(even.all(|id| ids.free_id(id).is_ok()));
+    let mut others = (0..2000).step_by(2).filter(|id| id % 32 != 0);
+    assert!(others.all(|id| ids.allocate_exact(id).is_ok()));
+    let (_, bytes) = peak_of(|| ids.clone());
+    assert!(bytes < 4 * (64 * 8 + 32), "{bytes} bytes");
 }
 
 /// Checks the bytes of a space for each of 10^5 ranges, side by side or with a gap after each. Then nine of

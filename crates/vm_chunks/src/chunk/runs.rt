@@ -22,7 +22,7 @@ use crate::place_from;
 pub enum Added {
     /// Nothing, because a run has the id.
     Known,
-    /// Nothing, because another chunk can have a run next to the id, or this one is full.
+    /// Nothing, because another chunk can have a run next to the id, or this one has no memory for a new run.
     Elsewhere,
     /// A run has the id now.
     New,
@@ -64,7 +64,7 @@ impl Chunk<Run> {
             self.entries[at] = Run { first, last: id };
             return Added::New;
         }
-        if runs.len() >= MAX_ENTRIES {
+        if runs.len() >= MAX_ENTRIES || runs.len() >= self.entries.capacity() {
             return Added::Elsewhere;
         }
         let Ok(()) = self.entries.insert(

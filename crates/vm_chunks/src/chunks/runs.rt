@@ -8,7 +8,8 @@ use crate::id_set::Run;
 
 impl Chunks<Run> {
     /// Adds an id if that changes the runs of one chunk, and returns `true`. Returns `false` if a run has the id. Returns
-    /// `None` and changes nothing if other chunks can change, or if the chunk is full. It does not allocate.
+    /// `None` and changes nothing if other chunks can change, or if the chunk has no memory for a new run. It does not
+    /// allocate.
     #[inline(always)]
     pub fn add_near(&mut self, id: u32) -> Option<bool>
         requires { AreRuns RUNS_END self.old }

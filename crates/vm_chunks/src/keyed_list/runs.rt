@@ -35,7 +35,7 @@ impl KeyedList<Run> {
     }
 
     /// Adds an id like `add`, if that changes the runs of one chunk. Returns `None` and changes nothing otherwise, or
-    /// if the chunk is full. It does not allocate.
+    /// if the chunk has no memory for a new run. It does not allocate.
     #[inline(always)]
     fn add_near(&mut self, id: u32) -> Option<bool>
         requires { AreRuns RUNS_END self.old }

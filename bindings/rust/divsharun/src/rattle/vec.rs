@@ -32,7 +32,6 @@ impl<T> Vec<T> {
     }
 
     /// Returns the number of values for which memory is allocated.
-    #[cfg(test)]
     #[must_use]
     pub fn capacity(&self) -> usize {
         self.0.capacity()

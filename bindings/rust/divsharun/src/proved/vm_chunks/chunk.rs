@@ -1,6 +1,6 @@
 // Written by bindings/erase from crates/vm_chunks/src/chunk.rt: do not edit.
 
-//! A chunk: at most 64 entries, with memory for 64. Only creating it can fail.
+//! A chunk: at most 64 entries. A new one has memory for 8, and grows once.
 
 use crate::rattle::Vec;
 mod runs;
@@ -12,6 +12,9 @@ pub(in crate::proved) use runs::Added;
 /// The maximum number of entries of a chunk.
 pub(in crate::proved) const MAX_ENTRIES: usize = 64;
 
+/// The number of entries for which a new chunk has memory. Many lists stay so short.
+const FIRST_ENTRIES: usize = 8;
+
 /// The entries next to a key.
 #[derive(Clone, Copy)]
 pub(in crate::proved) struct Gap<E: Entry> {
@@ -21,7 +24,7 @@ pub(in crate::proved) struct Gap<E: Entry> {
     pub(in crate::proved) below: Option<E>,
 }
 
-/// At most 64 entries, with memory for 64.
+/// At most 64 entries, with memory for 8 or for 64.
 ///
 /// Its model is the list of its entries.
 #[derive(Debug)]
@@ -29,19 +32,26 @@ pub(in crate::proved) struct Chunk<E: Entry> {
     entries: Vec<E>,
 }
 
+/// Returns a copy of the entries, with this capacity. It allocates once.
+fn copied<E: Entry>(alloc: Global, entries: &[E], capacity: usize) -> Result<Vec<E>, AllocError> {
+    let mut copy = Vec::with_capacity(alloc, capacity)?;
+    let Ok(()) = copy.extend_from_slice(entries) else {
+        unreachable!()
+    };
+    Ok(copy)
+}
+
 impl<E: Entry> Chunk<E> {
     /// Creates an empty chunk. It allocates once.
     pub(in crate::proved) fn new(alloc: Global) -> Result<Self, AllocError> {
-        let entries = Vec::with_capacity(alloc, MAX_ENTRIES)?;
+        let entries = Vec::with_capacity(alloc, FIRST_ENTRIES)?;
         Ok(Chunk { entries })
     }
 
-    /// Returns a copy. It allocates once.
+    /// Returns a copy with as much memory. It allocates once.
     pub(in crate::proved) fn try_clone(&self, alloc: Global) -> Result<Self, AllocError> {
-        let mut entries = Vec::with_capacity(alloc, MAX_ENTRIES)?;
-        let Ok(()) = entries.extend_from_slice(self.entries.as_slice()) else {
-            unreachable!()
-        };
+        let capacity = self.entries.capacity();
+        let entries = copied(alloc, self.entries.as_slice(), capacity)?;
         Ok(Chunk { entries })
     }
 
@@ -92,12 +102,17 @@ impl<E: Entry> Chunk<E> {
         self.entries[at] = entry;
     }
 
-    /// Inserts an entry with a new key. It does not allocate.
-    pub(in crate::proved) fn insert(&mut self, entry: E) {
+    /// Inserts an entry with a new key. It allocates at most once. An error changes nothing.
+    pub(in crate::proved) fn insert(&mut self, alloc: Global, entry: E) -> Result<(), AllocError> {
+        if self.entries.len() == self.entries.capacity() {
+            // In a cold cache, this takes less time than reallocating.
+            self.entries = copied(alloc, self.entries.as_slice(), MAX_ENTRIES)?;
+        }
         let at = place(self.entries.as_slice(), entry.key());
         let Ok(()) = self.entries.insert(at, entry) else {
             unreachable!()
         };
+        Ok(())
     }
 
     /// Returns the entries next to a key.
@@ -126,24 +141,27 @@ impl<E: Entry> Chunk<E> {
         None
     }
 
-    /// Moves the entries from `at` on to a new chunk. An error changes nothing.
+    /// Moves the entries from `at` on to a new chunk with memory for 64. An error changes nothing.
     pub(in crate::proved) fn split(
         &mut self,
         alloc: Global,
         at: usize,
     ) -> Result<Self, AllocError> {
-        let mut entries = Vec::with_capacity(alloc, MAX_ENTRIES)?;
-        let Ok(()) = entries.extend_from_slice(&self.entries[at..]) else {
-            unreachable!()
-        };
+        let entries = copied(alloc, &self.entries[at..], MAX_ENTRIES)?;
         self.entries.truncate(at);
         Ok(Chunk { entries })
     }
 
-    /// Appends the entries of another chunk. It does not allocate.
-    pub(in crate::proved) fn append(&mut self, other: &Self) {
+    /// Appends the entries of another chunk, and returns `true`. Returns `false` and changes nothing if it has no
+    /// memory for them. It does not allocate.
+    pub(in crate::proved) fn append(&mut self, other: &Self) -> bool {
+        let room = self.entries.capacity() - self.entries.len();
+        if room < other.len() {
+            return false;
+        }
         let Ok(()) = self.entries.extend_from_slice(other.entries.as_slice()) else {
             unreachable!()
         };
+        true
     }
 }

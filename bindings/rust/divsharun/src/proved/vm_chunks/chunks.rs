@@ -67,8 +67,14 @@ fn join<E: Entry>(chunks: &mut Vec<Chunk<E>>, bounds: &mut Vec<u64>, at: usize) 
     } else if lower == 0 || upper + lower <= MAX_ENTRIES / 2 {
         let lower = chunks.remove(at + 1);
         let upper = &mut chunks[at];
-        upper.append(&lower);
-        bounds.remove(at);
+        if upper.append(&lower) {
+            bounds.remove(at);
+            return;
+        }
+        // Proof: no contract states that the chunks of a long list have memory for 64.
+        let Ok(()) = chunks.insert(at + 1, lower) else {
+            unreachable!()
+        };
     }
 }
 
@@ -183,7 +189,7 @@ impl<E: Entry> Chunks<E> {
     pub(in crate::proved) fn insert(&mut self, alloc: Global, entry: E) -> Result<(), AllocError> {
         let at = make_room(alloc, &mut self.chunks, &mut self.bounds, entry.key())?;
         let chunk = &mut self.chunks[at];
-        chunk.insert(entry);
+        chunk.insert(alloc, entry)?;
         Ok(())
     }
 

@@ -102,7 +102,7 @@ impl<E: Entry> KeyedList<E> {
     /// Inserts an entry with a new key. An error changes nothing.
     pub(in crate::proved) fn insert(&mut self, alloc: Global, entry: E) -> Result<(), AllocError> {
         match &mut self.few {
-            Some(chunk) if chunk.len() < MAX_ENTRIES => chunk.insert(entry),
+            Some(chunk) if chunk.len() < MAX_ENTRIES => chunk.insert(alloc, entry)?,
             Some(chunk) => {
                 let mut many = Chunks::of(alloc, chunk)?;
                 many.insert(alloc, entry)?;
@@ -111,7 +111,7 @@ impl<E: Entry> KeyedList<E> {
             }
             None if self.many.highest().is_none() => {
                 let mut chunk = Chunk::new(alloc)?;
-                chunk.insert(entry);
+                chunk.insert(alloc, entry)?;
                 self.few = Some(chunk);
                 self.many = Chunks::new(alloc);
             }

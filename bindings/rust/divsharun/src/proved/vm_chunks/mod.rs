@@ -2,9 +2,10 @@
 
 //! Lists of entries in descending order of their keys, in chunks of at most 64 entries, and sets of ids.
 //!
-//! A list begins as one chunk, which takes one allocation. Once that is full, the list has bounds: a call finds the
-//! chunk of a key by them, and then the entry in the chunk. A change moves the entries of one chunk, and sometimes splits it
-//! or joins it with one next to it. The lowest entry is at the end of the last chunk, so removing it moves nothing.
+//! A list begins as one chunk, with memory for 8 entries and later for 64. Once that is full, the list has bounds: a call
+//! finds the chunk of a key by them, and then the entry in the chunk. A change moves the entries of one chunk, and
+//! sometimes splits it or joins it with one next to it. The lowest entry is at the end of the last chunk, so removing it
+//! moves nothing.
 
 mod chunk;
 mod chunks;

@@ -27,7 +27,7 @@ returns-clause-inserted g c =
     let h : g.E.Entry.key_of c.args.entry < TOP = search rules in
     let cs = c.make_room.new.chunks.items in
     ap (λ x. entries_of (set cs c.in_ok-at.at x))
-    (c.insert.ensures ∙ ap (λ l. with_entry g.E.Entry.key_of c.args.entry l) c.index_mut-chunk.ensures.value)
+    (c.in_ok-insert.ensures.inserted ∙ ap (λ l. with_entry g.E.Entry.key_of c.args.entry l) c.index_mut-chunk.ensures.value)
     ∙ put_entries g.E.Entry.key_of _ _ c.in_ok-at.ensures.chunks c.args.entry _ h p c.in_ok-at.ensures.within c.index_mut-chunk.result.now
     ∙ ap (λ l. with_entry g.E.Entry.key_of c.args.entry l) (c.in_ok-at.ensures.same ∙ c.self.view_is)
 
@@ -36,5 +36,5 @@ invariant_of-self-2 g c =
     let p = rw c.key.ensures at c.in_ok-at.ensures.place in
     let h : g.E.Entry.key_of c.args.entry < TOP = search rules in
     subst (λ x. AreChunks g.E.Entry.key_of (set c.make_room.new.chunks.items c.in_ok-at.at x) c.make_room.new.bounds.items)
-    (sym (c.insert.ensures ∙ ap (λ l. with_entry g.E.Entry.key_of c.args.entry l) c.index_mut-chunk.ensures.value))
+    (sym (c.in_ok-insert.ensures.inserted ∙ ap (λ l. with_entry g.E.Entry.key_of c.args.entry l) c.index_mut-chunk.ensures.value))
     (put_is g.E.Entry.key_of _ _ c.in_ok-at.ensures.chunks c.args.entry _ h p c.in_ok-at.ensures.within c.index_mut-chunk.result.now)
