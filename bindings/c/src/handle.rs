@@ -2,11 +2,11 @@
 //! The objects that C has pointers to.
 
 use crate::proved::vm_addresses::{Constraint, Error, Result as Answer};
+use crate::rattle::{AllocError, Global, Vec};
 use crate::requests::dvs_request;
-use crate::status::{DVS_BUSY, DVS_NULL};
+use crate::status::{dvs_status, DVS_BUSY, DVS_NULL};
 use crate::{CallError, Out};
 use alloc::boxed::Box;
-use alloc::vec::Vec;
 use core::cell::UnsafeCell;
 use core::ffi::c_int;
 use core::sync::atomic::{AtomicUsize, Ordering};
@@ -19,8 +19,8 @@ pub struct Handle<T> {
 }
 
 /// Returns the referent of a pointer, or `Null` if it is null.
-pub(crate) fn non_null<T>(pointer: Option<T>) -> Result<T, CallError> {
-    pointer.ok_or(DVS_NULL.into())
+pub(crate) fn non_null<T>(pointer: Option<T>) -> Result<T, dvs_status> {
+    pointer.ok_or(DVS_NULL)
 }
 
 impl<T> Handle<T> {
@@ -29,10 +29,9 @@ impl<T> Handle<T> {
     /// # Errors
     ///
     /// - `OutOfMemory` if the allocation fails.
-    pub(crate) fn new(object: T) -> Result<*mut Handle<T>, CallError> {
-        let mut one = Vec::new();
+    pub(crate) fn new<E: From<AllocError>>(object: T) -> Result<*mut Handle<T>, E> {
         // A vector reports a failed allocation, and a box does not.
-        one.try_reserve_exact(1).map_err(|_| Error::OutOfMemory)?;
+        let mut one = alloc::vec::Vec::from(Vec::with_capacity(Global, 1)?);
         one.push(Handle {
             object: UnsafeCell::new(object),
             visits: AtomicUsize::new(0),
@@ -103,10 +102,10 @@ pub(crate) fn visit<'a, T, I: Iterator>(
 }
 
 /// Writes the result of a call without an object to `out`.
-pub(crate) fn with_out<A>(
+pub(crate) fn with_out<A, E: From<dvs_status>>(
     out: Out<A>,
-    answer: impl FnOnce() -> Result<A, CallError>,
-) -> Result<(), CallError> {
+    answer: impl FnOnce() -> Result<A, E>,
+) -> Result<(), E> {
     non_null(out)?.write(answer()?);
     Ok(())
 }

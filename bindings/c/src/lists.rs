@@ -1,14 +1,14 @@
 // SPDX-License-Identifier: Apache-2.0 OR BSD-3-Clause
 //! Calls with arrays of ranges and of requests.
 
-use crate::handle::{non_null, Handle};
+use crate::handle::{non_null, with_out, Handle};
 use crate::proved::vm_addresses::{
     AddressAllocator, AllocPolicy, Constraint, Error, ListError, RangeInclusive,
 };
 use crate::ranges::dvs_address_allocator;
-use crate::rattle::Global;
+use crate::rattle::{self, Global};
 use crate::requests::{because_of, dvs_request, in_the_way, refused};
-use crate::status::{DVS_CAUSE_EARLIER_REQUEST, DVS_NULL, DVS_OUT_OF_MEMORY};
+use crate::status::{DVS_CAUSE_EARLIER_REQUEST, DVS_NULL};
 use crate::{dvs_range, dvs_refusal, dvs_status, status_of, CallError, Out};
 use alloc::vec::Vec;
 use core::slice;
@@ -37,22 +37,10 @@ pub(crate) unsafe fn array<'a, T>(first: *const T, count: usize) -> Result<&'a [
     Ok(unsafe { slice::from_raw_parts(first, count) })
 }
 
-/// The error of a call with an array, and the index of the member that failed, if one did.
-struct ArrayError {
-    index: Option<usize>,
-    error: CallError,
-}
-
-impl From<CallError> for ArrayError {
-    fn from(error: CallError) -> Self {
-        ArrayError { index: None, error }
-    }
-}
-
-impl From<ListError> for ArrayError {
+impl From<ListError> for CallError {
     fn from(ListError { index, error }: ListError) -> Self {
-        let error = error.into();
-        ArrayError { index, error }
+        let failure = CallError::from(error);
+        CallError { index, ..failure }
     }
 }
 
@@ -66,16 +54,12 @@ impl From<ListError> for ArrayError {
 fn converted<T, P>(
     members: &[T],
     convert: impl Fn(&T) -> Result<P, CallError>,
-) -> Result<Vec<P>, ArrayError> {
+) -> Result<Vec<P>, CallError> {
     for (index, member) in members.iter().enumerate() {
-        convert(member).map_err(|error| ArrayError {
-            index: Some(index),
-            error,
-        })?;
+        let index = Some(index);
+        convert(member).map_err(|failure| CallError { index, ..failure })?;
     }
-    let mut list = Vec::new();
-    let reserved = list.try_reserve_exact(members.len());
-    reserved.map_err(|_| CallError::from(DVS_OUT_OF_MEMORY))?;
+    let mut list = Vec::from(rattle::Vec::with_capacity(Global, members.len())?);
     list.extend(members.iter().flat_map(convert));
     Ok(list)
 }
@@ -83,7 +67,7 @@ fn converted<T, P>(
 /// Returns the status of a call with an array of `count` members. Writes the index of the member that
 /// failed to `failed`, or `count` if none did.
 fn status_of_array(
-    answer: Result<(), ArrayError>,
+    answer: Result<(), CallError>,
     count: usize,
     failed: Out<usize>,
     refusal: Out<dvs_refusal>,
@@ -92,7 +76,7 @@ fn status_of_array(
         let index = answer.as_ref().err().and_then(|failure| failure.index);
         failed.write(index.unwrap_or(count));
     }
-    status_of(answer.map_err(|failure| failure.error), refusal)
+    status_of(answer, refusal)
 }
 
 /// Creates an allocator from an array of ranges, and writes its pointer to `out`.
@@ -105,13 +89,13 @@ unsafe fn create_from(
     count: usize,
     out: Out<*mut dvs_address_allocator>,
     made: impl FnOnce(&[RangeInclusive]) -> Result<AddressAllocator, ListError>,
-) -> Result<(), ArrayError> {
-    let out = non_null(out)?;
-    // SAFETY: the caller's contract.
-    let ranges = unsafe { array(ranges, count) }?;
-    let ranges = converted(ranges, |range| Ok((*range).try_into()?))?;
-    out.write(Handle::new(made(&ranges)?)?);
-    Ok(())
+) -> Result<(), CallError> {
+    with_out(out, || {
+        // SAFETY: the caller's contract.
+        let ranges = unsafe { array(ranges, count) }?;
+        let ranges = converted(ranges, |range| Ok((*range).try_into()?))?;
+        Handle::new(made(&ranges)?)
+    })
 }
 
 /// # Safety
@@ -153,14 +137,8 @@ pub unsafe extern "C" fn dvs_address_allocator_with_free(
 /// Returns the details of a request for a given start that only an earlier request of its list is in the way
 /// of. `allocate_all` has freed the range of that one.
 fn earlier(request: Constraint) -> Option<dvs_refusal> {
-    match request.policy() {
-        AllocPolicy::ExactMatch(_) => Some(because_of(
-            DVS_CAUSE_EARLIER_REQUEST,
-            request,
-            dvs_range::default(),
-        )),
-        _ => None,
-    }
+    let is_exact = matches!(request.policy(), AllocPolicy::ExactMatch(_));
+    is_exact.then(|| because_of(DVS_CAUSE_EARLIER_REQUEST, request, dvs_range::default()))
 }
 
 /// # Safety
@@ -179,20 +157,20 @@ pub unsafe extern "C" fn dvs_address_allocator_allocate_all(
     let allocate = || {
         let allocator = non_null(allocator)?;
         if count > 0 && (requests.is_null() || ranges.is_null()) {
-            return Err(CallError::from(DVS_NULL).into());
+            return Err(DVS_NULL.into());
         }
         let object = allocator.get_mut()?;
         // SAFETY: the caller's contract.
         let requests = unsafe { array(requests, count) }?;
         let requests = converted(requests, dvs_request::constraint)?;
-        let allocated = object.allocate_all(Global, &requests).map_err(|failure| {
+        let allocated = object.allocate_all(Global, &requests);
+        let allocated = allocated.map_err(|ListError { index, error }| {
             let details = || {
-                let request = *requests.get(failure.index?)?;
+                let request = *requests.get(index?)?;
                 in_the_way(request, object.conflict(request)).or_else(|| earlier(request))
             };
-            let error = refused(failure.error, refusal.is_some(), details);
-            let index = failure.index;
-            ArrayError { index, error }
+            let failure = refused(error, refusal.is_some(), details);
+            CallError { index, ..failure }
         })?;
         for (index, range) in allocated.iter().enumerate() {
             // SAFETY: there is a writable range for each request.

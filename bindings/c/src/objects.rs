@@ -57,7 +57,7 @@ macro_rules! object_calls {
                 length: usize,
                 limits: Option<&$crate::json::dvs_text_limits>,
                 object: $crate::Out<*mut $handle>,
-                fault: $crate::Out<$crate::texts::dvs_text_fault>,
+                fault: $crate::Out<$crate::json::dvs_text_fault>,
             ) -> $crate::dvs_status {
                 // SAFETY: the caller's contract.
                 unsafe { $crate::texts::read(text, length, limits, object, fault, $reader) }
