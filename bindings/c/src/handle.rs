@@ -1,9 +1,8 @@
 // SPDX-License-Identifier: Apache-2.0 OR BSD-3-Clause
 //! The objects that C has pointers to.
 
-use crate::proved::vm_addresses::{Constraint, Error, Result as Answer};
+use crate::proved::vm_addresses::{Error, Result as Answer};
 use crate::rattle::{AllocError, Global, Vec};
-use crate::requests::dvs_request;
 use crate::status::{dvs_status, DVS_BUSY, DVS_NULL};
 use crate::{CallError, Out};
 use alloc::boxed::Box;
@@ -110,46 +109,14 @@ pub(crate) fn with_out<A, E: From<dvs_status>>(
     Ok(())
 }
 
-/// Writes the result of a query to `out`.
+/// Writes the result of a call on an object to `out`, if the call has a result.
 #[inline(always)]
-pub(crate) fn with_ref<T, A>(
-    handle: Option<&Handle<T>>,
-    out: Out<A>,
-    answer: impl FnOnce(&T) -> Result<A, CallError>,
-) -> Result<(), CallError> {
-    let handle = non_null(handle)?;
-    with_out(out, || answer(handle.get()))
-}
-
-/// Changes an object, and writes the result to `out`.
-#[inline(always)]
-pub(crate) fn with_mut<T, A>(
-    handle: Option<&Handle<T>>,
-    out: Out<A>,
-    change: impl FnOnce(&mut T) -> Result<A, CallError>,
-) -> Result<(), CallError> {
-    let handle = non_null(handle)?;
-    with_out(out, || change(handle.get_mut()?))
-}
-
-/// Changes an object without a result.
-#[inline(always)]
-pub(crate) fn with_mut_unit<T>(
-    handle: Option<&Handle<T>>,
-    change: impl FnOnce(&mut T) -> Result<(), CallError>,
-) -> Result<(), CallError> {
-    change(non_null(handle)?.get_mut()?)
-}
-
-/// Changes an object by a request, and writes the result to `out`.
-pub(crate) fn with_request<T, A>(
-    handle: Option<&Handle<T>>,
-    request: Option<&dvs_request>,
-    out: Out<A>,
-    change: impl FnOnce(&mut T, Constraint) -> Result<A, CallError>,
-) -> Result<(), CallError> {
-    let request = non_null(request)?;
-    with_mut(handle, out, |object| change(object, request.constraint()?))
+pub(crate) fn write<A>(answer: Result<A, CallError>, out: Out<A>) -> Result<(), CallError> {
+    let answer = answer?;
+    if let Some(out) = out {
+        out.write(answer);
+    }
+    Ok(())
 }
 
 /// Returns the item that a look-up has found.

@@ -89,26 +89,26 @@ object_calls! {
 }
 
 calls! {
-    with_mut dvs_id_allocate(ids: dvs_id_allocator) -> id: u32 { Ok(ids.allocate_id()?) }
-    with_mut dvs_id_allocate_in(ids: dvs_id_allocator, first: u32, last: u32)
+    changes dvs_id_allocate(ids: dvs_id_allocator) -> id: u32 { Ok(ids.allocate_id()?) }
+    changes dvs_id_allocate_in(ids: dvs_id_allocator, first: u32, last: u32)
         -> id: u32 [refusal] {
         Ok(ids.allocate_in(first, last)?)
     }
-    with_mut_unit dvs_id_allocate_exact(ids: dvs_id_allocator, id: u32) [refusal] {
+    changes dvs_id_allocate_exact(ids: dvs_id_allocator, id: u32) [refusal] {
         ids.allocate_exact(id).map(drop).map_err(|error| refused_id(error, id))
     }
-    with_mut_unit dvs_id_free(ids: dvs_id_allocator, id: u32) [refusal] {
+    changes dvs_id_free(ids: dvs_id_allocator, id: u32) [refusal] {
         Ok(ids.free_id(id).map(drop)?)
     }
-    with_ref dvs_id_allocator_range(ids: dvs_id_allocator, first: Out<u32>) -> last: u32 {
+    reads dvs_id_allocator_range(ids: dvs_id_allocator, first: Out<u32>) -> last: u32 {
         write_range(ids, first)
     }
-    with_ref dvs_id_peek(ids: dvs_id_allocator) -> id: u32 { Ok(ids.peek_id()?) }
-    with_ref dvs_id_is_allocated(ids: dvs_id_allocator, id: u32) -> is_allocated: bool {
+    reads dvs_id_peek(ids: dvs_id_allocator) -> id: u32 { Ok(ids.peek_id()?) }
+    reads dvs_id_is_allocated(ids: dvs_id_allocator, id: u32) -> is_allocated: bool {
         Ok(ids.is_allocated(id))
     }
-    with_ref dvs_id_count(ids: dvs_id_allocator) -> count: u64 { Ok(ids.held_count()) }
-    with_ref dvs_id_free_count(ids: dvs_id_allocator) -> count: u64 { Ok(ids.free_count()) }
+    reads dvs_id_count(ids: dvs_id_allocator) -> count: u64 { Ok(ids.held_count()) }
+    reads dvs_id_free_count(ids: dvs_id_allocator) -> count: u64 { Ok(ids.free_count()) }
 }
 
 visits! {

@@ -42,14 +42,14 @@ functions! {
 object_calls! { dvs_range_map: dvs_range_map_destroy, dvs_range_map_copy, dvs_range_map_equal }
 
 calls! {
-    with_request dvs_range_map_allocate(map: dvs_range_map, value: u64; request)
+    changes dvs_range_map_allocate(map: dvs_range_map, value: u64; request)
         -> range: dvs_range [refusal] {
         let allocated = map.allocate_constraint(Global, request, value);
         answered(allocated, refusal.is_some(), || {
             in_the_way(request, map.addresses().conflict(request))
         })
     }
-    with_request dvs_range_map_move(map: dvs_range_map, range: dvs_range; request)
+    changes dvs_range_map_move(map: dvs_range_map, range: dvs_range; request)
         -> moved: dvs_range [refusal] {
         let range = range.try_into()?;
         let moved = map.move_constraint(Global, &range, request);
@@ -57,19 +57,19 @@ calls! {
             in_the_way(request, map.addresses().move_conflict(&range, request))
         })
     }
-    with_mut dvs_range_map_free(map: dvs_range_map, range: dvs_range) -> value: u64 [refusal] {
+    changes dvs_range_map_free(map: dvs_range_map, range: dvs_range) -> value: u64 [refusal] {
         Ok(map.free(&range.try_into()?)?)
     }
-    with_mut dvs_range_map_set(map: dvs_range_map, address: u64, value: u64) -> before: u64 {
+    changes dvs_range_map_set(map: dvs_range_map, address: u64, value: u64) -> before: u64 {
         found(map.set(address, value))
     }
-    with_ref dvs_range_map_get(map: dvs_range_map, address: u64) -> valued: dvs_valued_range {
+    reads dvs_range_map_get(map: dvs_range_map, address: u64) -> valued: dvs_valued_range {
         found(map.get(address))
     }
-    with_ref dvs_range_map_count(map: dvs_range_map) -> count: u64 {
+    reads dvs_range_map_count(map: dvs_range_map) -> count: u64 {
         Ok(map.addresses().held_count())
     }
-    with_ref dvs_range_map_space(map: dvs_range_map) -> ends: dvs_range {
+    reads dvs_range_map_space(map: dvs_range_map) -> ends: dvs_range {
         Ok(space_of(map.addresses()))
     }
 }

@@ -15,10 +15,10 @@ macro_rules! object_calls {
         }
 
         $crate::objects::calls! {
-            with_ref $copy(object: $handle) -> copied: *mut $handle {
+            reads $copy(object: $handle) -> copied: *mut $handle {
                 $crate::handle::Handle::new(object.try_clone($crate::rattle::Global)?)
             }
-            with_ref $equal(one: $handle, other: Option<&$handle>) -> are_equal: bool {
+            reads $equal(one: $handle, other: Option<&$handle>) -> are_equal: bool {
                 Ok(one == $crate::handle::non_null(other)?.get())
             }
         }
@@ -28,7 +28,7 @@ macro_rules! object_calls {
         $crate::objects::object_calls! { $handle: $destroy, $copy, $equal }
 
         $crate::objects::calls! {
-            with_ref $save(object: $handle, text: $crate::Out<*mut core::ffi::c_char>)
+            reads $save(object: $handle, text: $crate::Out<*mut core::ffi::c_char>)
                 -> length: usize {
                 $crate::texts::save(text, || $saver(object))
             }
@@ -66,23 +66,39 @@ macro_rules! object_calls {
     };
 }
 
-/// Defines calls on an object, each with the function that makes it, the arguments, a request, the
-/// result, the details of an error, and a block for the result.
+/// Returns the object of a handle, for a call that reads or changes it.
+macro_rules! object {
+    (reads $handle:ident) => {
+        $handle.get()
+    };
+    (changes $handle:ident) => {
+        $handle.get_mut()?
+    };
+}
+
+/// Defines calls on an object. Each has what it does with the object, the arguments, a request, the result,
+/// the details of an error, and a block for the result.
 macro_rules! calls {
-    ($($by:ident $name:ident($object:ident: $handle:ident
+    ($($does:ident $name:ident($object:ident: $handle:ident
         $(, $argument:ident: $type:ty)* $(; $request:ident)?)
         $(-> $result:ident: $written:ty)? $([$refusal:ident])? $answer:block)+) => {$(
         #[unsafe(no_mangle)]
         pub extern "C" fn $name(
-            object: Option<&$handle>,
+            $object: Option<&$handle>,
             $($argument: $type,)*
             $($request: Option<&$crate::requests::dvs_request>,)?
             $($result: $crate::Out<$written>,)?
             $($refusal: $crate::Out<$crate::dvs_refusal>,)?
         ) -> $crate::dvs_status {
-            let made = $crate::handle::$by(object, $($request,)? $($result,)?
-                |$object $(, $request)?| $answer);
-            $crate::status_of(made, None$(.or($refusal))?)
+            let call = || {
+                let $object = $crate::handle::non_null($object)?;
+                $(let $request = $crate::handle::non_null($request)?;)?
+                $(let $result = $crate::handle::non_null($result)?;)?
+                let $object = $crate::objects::object!($does $object);
+                $(let $request = $request.constraint()?;)?
+                $crate::handle::write($answer, None$(.or(Some($result)))?)
+            };
+            $crate::status_of(call(), None$(.or($refusal))?)
         }
     )+};
 }
@@ -124,4 +140,4 @@ macro_rules! visits {
     )+};
 }
 
-pub(crate) use {calls, functions, object_calls, visits};
+pub(crate) use {calls, functions, object, object_calls, visits};

@@ -7,7 +7,7 @@ use crate::proved::vm_addresses::{
     AddressAllocator, AllocPolicy, Constraint, RangeInclusive, Result as Answer,
 };
 use crate::rattle::Global;
-use crate::requests::{answered, conflict, dvs_request, in_the_way};
+use crate::requests::{answered, in_the_way};
 use crate::texts::{read_space, save_space};
 use crate::{dvs_range, dvs_refusal, CallError};
 use core::ffi::{c_int, c_void};
@@ -106,62 +106,61 @@ object_calls! {
 }
 
 calls! {
-    with_mut dvs_range_allocate_first(space: dvs_address_allocator, size: u64, alignment: u64)
+    changes dvs_range_allocate_first(space: dvs_address_allocator, size: u64, alignment: u64)
         -> range: dvs_range [refusal] {
         let request = Constraint::new(size, alignment, AllocPolicy::FirstMatch)?;
         allocate(space, request, refusal.is_some())
     }
-    with_mut dvs_range_allocate_last(space: dvs_address_allocator, size: u64, alignment: u64)
+    changes dvs_range_allocate_last(space: dvs_address_allocator, size: u64, alignment: u64)
         -> range: dvs_range [refusal] {
         let request = Constraint::new(size, alignment, AllocPolicy::LastMatch)?;
         allocate(space, request, refusal.is_some())
     }
-    with_mut dvs_range_allocate_exact(
+    changes dvs_range_allocate_exact(
         space: dvs_address_allocator, size: u64, alignment: u64, start: u64
     ) -> range: dvs_range [refusal] {
         let request = Constraint::new(size, alignment, AllocPolicy::ExactMatch(start))?;
         allocate(space, request, refusal.is_some())
     }
-    with_mut dvs_range_move(space: dvs_address_allocator, range: dvs_range, start: u64)
+    changes dvs_range_move(space: dvs_address_allocator, range: dvs_range, start: u64)
         -> moved: dvs_range [refusal] {
         let range = RangeInclusive::try_from(range)?;
         let request = Constraint::new(range.len(), 1, AllocPolicy::ExactMatch(start))?;
         move_by(space, &range, request, refusal.is_some())
     }
-    with_ref dvs_range_is_allocated(space: dvs_address_allocator, range: dvs_range)
+    reads dvs_range_is_allocated(space: dvs_address_allocator, range: dvs_range)
         -> is_allocated: bool [refusal] {
         Ok(space.holds(&range.try_into()?))
     }
-    with_ref dvs_range_at(space: dvs_address_allocator, address: u64) -> range: dvs_range {
+    reads dvs_range_at(space: dvs_address_allocator, address: u64) -> range: dvs_range {
         found(space.held_at(address))
     }
-    with_ref dvs_gap_at(space: dvs_address_allocator, address: u64) -> gap: dvs_range {
+    reads dvs_gap_at(space: dvs_address_allocator, address: u64) -> gap: dvs_range {
         found(space.gap_at(address))
     }
-    with_ref dvs_address_allocator_space(space: dvs_address_allocator) -> ends: dvs_range {
+    reads dvs_address_allocator_space(space: dvs_address_allocator) -> ends: dvs_range {
         Ok(space_of(space))
     }
-    with_ref dvs_range_count(space: dvs_address_allocator) -> count: u64 { Ok(space.held_count()) }
-    with_ref dvs_gap_count(space: dvs_address_allocator) -> count: u64 { Ok(space.gap_count()) }
-    with_ref dvs_longest_gap(space: dvs_address_allocator) -> length: u64 {
+    reads dvs_range_count(space: dvs_address_allocator) -> count: u64 { Ok(space.held_count()) }
+    reads dvs_gap_count(space: dvs_address_allocator) -> count: u64 { Ok(space.gap_count()) }
+    reads dvs_longest_gap(space: dvs_address_allocator) -> length: u64 {
         Ok(space.longest_gap())
     }
-    with_ref dvs_free_length(space: dvs_address_allocator) -> length: u64 {
+    reads dvs_free_length(space: dvs_address_allocator) -> length: u64 {
         Ok(space.free_len())
     }
-    with_mut_unit dvs_range_free(space: dvs_address_allocator, range: dvs_range) [refusal] {
+    changes dvs_range_free(space: dvs_address_allocator, range: dvs_range) [refusal] {
         Ok(space.free(&range.try_into()?)?)
     }
-    with_request dvs_range_allocate(space: dvs_address_allocator; request)
+    changes dvs_range_allocate(space: dvs_address_allocator; request)
         -> range: dvs_range [refusal] {
         allocate(space, request, refusal.is_some())
     }
-    with_request dvs_range_move_request(space: dvs_address_allocator, range: dvs_range; request)
+    changes dvs_range_move_request(space: dvs_address_allocator, range: dvs_range; request)
         -> moved: dvs_range [refusal] {
         move_by(space, &range.try_into()?, request, refusal.is_some())
     }
-    with_ref dvs_range_conflict(space: dvs_address_allocator, request: Option<&dvs_request>)
-        -> found: dvs_refusal {
-        conflict(space, request)
+    reads dvs_range_conflict(space: dvs_address_allocator; request) -> found: dvs_refusal {
+        Ok(in_the_way(request, space.conflict(request)).unwrap_or_default())
     }
 }

@@ -3,9 +3,7 @@
 
 use crate::handle::{non_null, with_out, Handle};
 use crate::json::{dvs_text_fault, dvs_text_limits, Read, Reader, TextFault};
-use crate::proved::vm_addresses::{
-    AddressAllocator, RangeInclusive, ReadNodes, SavedError, Side, WrittenTree,
-};
+use crate::proved::vm_addresses::{AddressAllocator, RangeInclusive, ReadNodes, SavedError, Side};
 use crate::proved::vm_devices::{DeviceManager, DeviceSlot, ReadDevices};
 use crate::proved::vm_ids::{IdAllocator, ReadIds};
 use crate::proved::vm_ranges::NodeState;
@@ -113,17 +111,12 @@ impl Json for NodeState {
 }
 
 impl<T: Json> Json for Option<T> {
+    #[inline(always)]
     fn write(&self, to: &mut impl Sink) {
         match self {
             Some(value) => value.write(to),
             None => to.text("null"),
         }
-    }
-}
-
-impl Json for WrittenTree<'_> {
-    fn write(&self, to: &mut impl Sink) {
-        self.root().write(to);
     }
 }
 

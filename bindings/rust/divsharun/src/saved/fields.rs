@@ -14,14 +14,14 @@ write_fields! {
     WithBlocks<'_, AddressAllocator> as "AddressAllocator", this:
         address_space = Space(this.0.base(), this.0.end()),
         interval_tree = Root(this.1);
-    Root<'_> as "IntervalTree", this: root = this.0.tree();
+    Root<'_> as "IntervalTree", this: root = this.0.tree().root();
     // A call for each node is faster than one for each link, of which there are twice as many.
     #[inline(never)]
     WrittenNode<'_> as "InnerNode", this:
         key = this.key,
         node_state = this.state,
-        left = this.left,
-        right = this.right,
+        left = this.left.root(),
+        right = this.right.root(),
         height = this.height;
     IdAllocator as "IdAllocator", this:
         range_base = this.range_base(),

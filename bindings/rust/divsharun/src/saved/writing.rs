@@ -1,7 +1,7 @@
 // SPDX-License-Identifier: Apache-2.0 OR BSD-3-Clause
 //! Writes objects with serde.
 
-use crate::proved::vm_addresses::{AddressAllocator, WrittenBlocks, WrittenTree};
+use crate::proved::vm_addresses::{AddressAllocator, WrittenBlocks};
 use crate::proved::vm_devices::DeviceManager;
 use crate::proved::vm_ranges::NodeState;
 use crate::rattle::Global;
@@ -158,13 +158,6 @@ impl crate::DeviceManager {
     /// ```
     pub fn try_saved(&self) -> Result<Saved<'_, Self>, TryError> {
         Saved::of(self, self.0.addresses())
-    }
-}
-
-impl Serialize for WrittenTree<'_> {
-    #[inline]
-    fn serialize<S: Serializer>(&self, to: S) -> Result<S::Ok, S::Error> {
-        self.root().serialize(to)
     }
 }
 
