@@ -93,7 +93,7 @@ impl<T> RangeMap<T> {
         /// assert_eq!(empty, Err(TryError::Refused(Error::Underflow)));
         /// # Ok::<(), TryError>(())
         /// ```
-        pub fn try_new;
+        pub fn try_new -> TryResult;
 
         /// Allocates `size` free addresses that start at a multiple of `alignment`, keeps `value` with their
         /// range, and returns the range. `policy` chooses the range as in
@@ -130,7 +130,7 @@ impl<T> RangeMap<T> {
         ) -> Result<RangeInclusive> {
             let (policy, index) = (policy.proved(), self.values.len() as u64);
             let range = self.ranges.allocate(Global, size, alignment, policy, index)?;
-            self.keep(range, value)
+            Ok(RangeInclusive(self.keep(range, value)?))
         }
 
         /// Allocates a range like [`allocate`](Self::allocate), but returns an error if memory runs out.
@@ -155,7 +155,7 @@ impl<T> RangeMap<T> {
         /// );
         /// # Ok::<(), TryError>(())
         /// ```
-        pub fn try_allocate;
+        pub fn try_allocate -> TryResult;
 
         /// Allocates a range like [`allocate`](Self::allocate), for a request that was made before. If the
         /// request has a [window](Constraint::within), the range lies in it.
@@ -180,7 +180,7 @@ impl<T> RangeMap<T> {
         pub fn allocate_constraint(&mut self, request: Constraint, value: T) -> Result<RangeInclusive> {
             let index = self.values.len() as u64;
             let range = self.ranges.allocate_constraint(Global, request.0, index)?;
-            self.keep(range, value)
+            Ok(RangeInclusive(self.keep(range, value)?))
         }
 
         /// Allocates a range like [`allocate_constraint`](Self::allocate_constraint), but returns an error if
@@ -206,7 +206,7 @@ impl<T> RangeMap<T> {
         /// );
         /// # Ok::<(), TryError>(())
         /// ```
-        pub fn try_allocate_constraint;
+        pub fn try_allocate_constraint -> TryResult;
     }
 
     /// Keeps the value of a range that is allocated. Without memory for it, the range is freed.
@@ -253,7 +253,7 @@ impl<T> RangeMap<T> {
             if let Some(at) = self.ranges.get(to.start()) {
                 self.values[at.value as usize].0 = to.start();
             }
-            Ok(to)
+            Ok(RangeInclusive(to))
         }
 
         /// Moves a range like [`move_constraint`](Self::move_constraint), but returns an error if memory runs
@@ -276,7 +276,7 @@ impl<T> RangeMap<T> {
         /// assert_eq!(bus.try_move_constraint(&net, longer)?.len(), 0x8000);
         /// # Ok::<(), TryError>(())
         /// ```
-        pub fn try_move_constraint;
+        pub fn try_move_constraint -> TryResult;
     }
 
     /// Frees an allocated range, and returns its value. It does not allocate memory, and always succeeds

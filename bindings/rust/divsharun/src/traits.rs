@@ -72,25 +72,19 @@ macro_rules! fused {
     };
 }
 
-/// Defines calls in pairs. If memory runs out, the first call of a pair ends the process, and the second
-/// one returns `OutOfMemory`. The body of both returns the result of the proved code, which is converted.
+/// Defines calls in pairs with the same body. If memory runs out, the first call of a pair ends the process, and
+/// the second one returns `OutOfMemory`: its type of result decides how an error of the proved code is converted.
 macro_rules! twins {
     ($(
         $(#[$attribute:meta])*
-        pub fn $name:ident($($parameter:tt)*) -> Result<$result:ty> $call:block
+        pub fn $name:ident($($parameter:tt)*) -> $result:ident<$value:ty> $body:block
         $(#[$try_attribute:meta])*
-        pub fn $try_name:ident;
+        pub fn $try_name:ident -> $try_result:ident;
     )+) => {$(
         $(#[$attribute])*
-        pub fn $name($($parameter)*) -> $crate::Result<$result> {
-            let answer: $crate::proved::vm_addresses::Result<_> = $call;
-            Ok(answer?.into())
-        }
+        pub fn $name($($parameter)*) -> $result<$value> $body
         $(#[$try_attribute])*
-        pub fn $try_name($($parameter)*) -> $crate::error::TryResult<$result> {
-            let answer: $crate::proved::vm_addresses::Result<_> = $call;
-            Ok(answer?.into())
-        }
+        pub fn $try_name($($parameter)*) -> $try_result<$value> $body
     )+};
 }
 
