@@ -130,7 +130,8 @@ template <typename T, dvs_status (*Destroy)(T *), dvs_status (*Copy)(const T *, 
           dvs_status (*Equal)(const T *, const T *, bool *),
           dvs_status (*Save)(const T *, char **, std::size_t *),
           dvs_status (*Read)(const char *, std::size_t, const dvs_text_limits *, T **,
-                             dvs_text_fault *)>
+                             dvs_text_fault *),
+          typename Item, dvs_status (*Visit)(const T *, int (*)(void *, Item), void *)>
 class owner {
     T *object = nullptr;
 
@@ -179,6 +180,10 @@ class owner {
             text.assign(saved, length);
         return status;
     }
+    /* Calls `action` with each item, in ascending order, until it returns false. */
+    template <typename Action> error for_each(Action action) const {
+        return visit_by(Visit, std::move(action));
+    }
     /* An empty owner equals only empty ones. */
     friend bool operator==(const owner &one, const owner &other) noexcept {
         bool are_equal = false;
@@ -208,8 +213,8 @@ class owner {
     }
 
     /* Calls `action` with each item until it returns false. An exception ends the visit. */
-    template <typename Item, typename Visit, typename Action, typename... Address>
-    error visit_by(Visit call, Action action, Address... address) const {
+    template <typename Call, typename Action, typename... Address>
+    error visit_by(Call call, Action action, Address... address) const {
         struct visit {
             Action action;
             std::exception_ptr thrown;
@@ -234,11 +239,9 @@ class owner {
     }
 
     /* Replaces `items` by the items of a visit. An error leaves them unchanged. */
-    template <typename Item, typename Visit>
-    error list_by(Visit call, std::vector<Item> &items) const {
+    template <typename Call> error list_by(Call call, std::vector<Item> &items) const {
         std::vector<Item> found;
-        error failed =
-            visit_by<Item>(call, [&found](Item item) { return found.push_back(item), true; });
+        error failed = visit_by(call, [&](Item item) { return found.push_back(item), true; });
         if (!failed)
             items = std::move(found);
         return failed;
@@ -290,9 +293,10 @@ class request {
     }
 };
 
-using space_owner = owner<dvs_address_allocator, dvs_address_allocator_destroy,
-                          dvs_address_allocator_copy, dvs_address_allocator_equal,
-                          dvs_address_allocator_save, dvs_address_allocator_read_within>;
+using space_owner =
+    owner<dvs_address_allocator, dvs_address_allocator_destroy, dvs_address_allocator_copy,
+          dvs_address_allocator_equal, dvs_address_allocator_save,
+          dvs_address_allocator_read_within, dvs_range, dvs_range_visit>;
 
 /*
  * The allocated ranges or the gaps from an address upwards, for a range-based for:
@@ -460,29 +464,26 @@ class address_allocator : public space_owner {
     error gaps_from(uint64_t address, each_gap &gaps) const noexcept {
         return gaps.start(*this, address);
     }
-    template <typename Action> error for_each(Action action) const {
-        return visit_by<dvs_range>(dvs_range_visit, std::move(action));
-    }
     template <typename Action> error for_each_gap(Action action) const {
-        return visit_by<dvs_range>(dvs_gap_visit, std::move(action));
+        return visit_by(dvs_gap_visit, std::move(action));
     }
     /* The ranges or the gaps from an address upwards, or back from it downwards. */
     template <typename Action> error for_each_from(uint64_t address, Action action) const {
-        return visit_by<dvs_range>(dvs_range_visit_from, std::move(action), address);
+        return visit_by(dvs_range_visit_from, std::move(action), address);
     }
     template <typename Action> error for_each_back(uint64_t address, Action action) const {
-        return visit_by<dvs_range>(dvs_range_visit_back, std::move(action), address);
+        return visit_by(dvs_range_visit_back, std::move(action), address);
     }
     template <typename Action> error for_each_gap_from(uint64_t address, Action action) const {
-        return visit_by<dvs_range>(dvs_gap_visit_from, std::move(action), address);
+        return visit_by(dvs_gap_visit_from, std::move(action), address);
     }
     template <typename Action> error for_each_gap_back(uint64_t address, Action action) const {
-        return visit_by<dvs_range>(dvs_gap_visit_back, std::move(action), address);
+        return visit_by(dvs_gap_visit_back, std::move(action), address);
     }
 
   private:
-    template <typename Visit>
-    error list_in(Visit call, dvs_range within, std::vector<dvs_range> &ranges,
+    template <typename Call>
+    error list_in(Call call, dvs_range within, std::vector<dvs_range> &ranges,
                   dvs_refusal *refusal) const {
         return list_by([=](const handle *from, dvs_range_visitor *visitor,
                            void *context) { return call(from, within, visitor, context, refusal); },
@@ -490,9 +491,9 @@ class address_allocator : public space_owner {
     }
 };
 
-class id_allocator
-    : public owner<dvs_id_allocator, dvs_id_allocator_destroy, dvs_id_allocator_copy,
-                   dvs_id_allocator_equal, dvs_id_allocator_save, dvs_id_allocator_read_within> {
+class id_allocator : public owner<dvs_id_allocator, dvs_id_allocator_destroy, dvs_id_allocator_copy,
+                                  dvs_id_allocator_equal, dvs_id_allocator_save,
+                                  dvs_id_allocator_read_within, uint32_t, dvs_id_visit> {
   public:
     error make(uint32_t first, uint32_t last, dvs_refusal *refusal = nullptr) noexcept {
         return create(
@@ -532,14 +533,12 @@ class id_allocator
     error id_count(uint64_t &count) const noexcept { return dvs_id_count(get(), &count); }
     error free_count(uint64_t &count) const noexcept { return dvs_id_free_count(get(), &count); }
     error ids(std::vector<uint32_t> &ids) const { return list_by(dvs_id_visit, ids); }
-    template <typename Action> error for_each(Action action) const {
-        return visit_by<uint32_t>(dvs_id_visit, std::move(action));
-    }
 };
 
-class device_manager : public owner<dvs_device_manager, dvs_device_manager_destroy,
-                                    dvs_device_manager_copy, dvs_device_manager_equal,
-                                    dvs_device_manager_save, dvs_device_manager_read_within> {
+class device_manager
+    : public owner<dvs_device_manager, dvs_device_manager_destroy, dvs_device_manager_copy,
+                   dvs_device_manager_equal, dvs_device_manager_save,
+                   dvs_device_manager_read_within, dvs_device, dvs_device_visit> {
   public:
     error make(uint32_t first_id, uint32_t last_id, uint64_t base, uint64_t size,
                dvs_refusal *refusal = nullptr) noexcept {
@@ -592,14 +591,12 @@ class device_manager : public owner<dvs_device_manager, dvs_device_manager_destr
     error devices(std::vector<dvs_device> &devices) const {
         return list_by(dvs_device_visit, devices);
     }
-    template <typename Action> error for_each(Action action) const {
-        return visit_by<dvs_device>(dvs_device_visit, std::move(action));
-    }
 };
 
 /* A map is not saved. */
-class range_map : public owner<dvs_range_map, dvs_range_map_destroy, dvs_range_map_copy,
-                               dvs_range_map_equal, nullptr, nullptr> {
+class range_map
+    : public owner<dvs_range_map, dvs_range_map_destroy, dvs_range_map_copy, dvs_range_map_equal,
+                   nullptr, nullptr, dvs_valued_range, dvs_range_map_visit> {
   public:
     void read() = delete;
     void save() = delete;
@@ -627,9 +624,6 @@ class range_map : public owner<dvs_range_map, dvs_range_map_destroy, dvs_range_m
     error range_count(uint64_t &count) const noexcept { return dvs_range_map_count(get(), &count); }
     error ranges(std::vector<dvs_valued_range> &ranges) const {
         return list_by(dvs_range_map_visit, ranges);
-    }
-    template <typename Action> error for_each(Action action) const {
-        return visit_by<dvs_valued_range>(dvs_range_map_visit, std::move(action));
     }
 };
 

@@ -29,11 +29,9 @@ pub struct dvs_device {
 }
 
 impl From<DeviceSlot> for dvs_device {
-    fn from(slot: DeviceSlot) -> Self {
-        dvs_device {
-            range: slot.range.into(),
-            id: slot.id,
-        }
+    fn from(DeviceSlot { id, range }: DeviceSlot) -> Self {
+        let range = range.into();
+        dvs_device { range, id }
     }
 }
 

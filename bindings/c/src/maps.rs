@@ -25,11 +25,9 @@ pub struct dvs_valued_range {
 }
 
 impl From<ValuedRange> for dvs_valued_range {
-    fn from(found: ValuedRange) -> Self {
-        dvs_valued_range {
-            range: found.range.into(),
-            value: found.value,
-        }
+    fn from(ValuedRange { range, value }: ValuedRange) -> Self {
+        let range = range.into();
+        dvs_valued_range { range, value }
     }
 }
 

@@ -34,8 +34,7 @@ use core::fmt;
 /// # Ok::<(), Error>(())
 /// ```
 #[derive(PartialEq, Eq, PartialOrd, Ord)]
-#[cfg_attr(feature = "serde", derive(serde::Serialize, serde::Deserialize))]
-#[cfg_attr(feature = "serde", serde(transparent))]
+#[cfg_attr(feature = "serde", derive(serde::Deserialize), serde(transparent))]
 pub struct AddressAllocator(pub(crate) proved::AddressAllocator);
 
 impl AddressAllocator {

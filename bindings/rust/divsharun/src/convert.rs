@@ -63,20 +63,8 @@ impl From<RangeInclusive> for proved::RangeInclusive {
 
 impl Into<DeviceSlot> for vm_devices::DeviceSlot {
     fn into(self) -> DeviceSlot {
-        DeviceSlot {
-            id: self.id,
-            range: self.range.into(),
-        }
-    }
-}
-
-#[cfg(feature = "serde")]
-impl From<DeviceSlot> for vm_devices::DeviceSlot {
-    fn from(slot: DeviceSlot) -> Self {
-        vm_devices::DeviceSlot {
-            id: slot.id,
-            range: slot.range.0,
-        }
+        let (id, range) = (self.id, self.range.into());
+        DeviceSlot { id, range }
     }
 }
 

@@ -85,8 +85,7 @@ pub struct DeviceSlot {
 /// # Ok::<(), Error>(())
 /// ```
 #[derive(PartialEq, Eq)]
-#[cfg_attr(feature = "serde", derive(serde::Serialize, serde::Deserialize))]
-#[cfg_attr(feature = "serde", serde(transparent))]
+#[cfg_attr(feature = "serde", derive(serde::Deserialize), serde(transparent))]
 pub struct DeviceManager(pub(crate) proved::DeviceManager);
 
 impl DeviceManager {

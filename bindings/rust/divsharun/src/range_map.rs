@@ -5,7 +5,7 @@ use crate::error::TryResult;
 use crate::proved::vm_addresses::{self, RangeInclusive as Range};
 use crate::proved::vm_range_map as proved;
 use crate::rattle::Global;
-use crate::traits::{twins, DebugList};
+use crate::traits::{fused, twins, DebugList};
 use crate::{AllocPolicy, Constraint, RangeInclusive, Result, TryError};
 use alloc::vec::Vec;
 use core::fmt;
@@ -513,7 +513,7 @@ impl<T> DoubleEndedIterator for ValuedRanges<'_, T> {
 
 impl<T> ExactSizeIterator for ValuedRanges<'_, T> {}
 
-impl<T> core::iter::FusedIterator for ValuedRanges<'_, T> {}
+fused!(ValuedRanges<T>);
 
 impl<T> Clone for ValuedRanges<'_, T> {
     fn clone(&self) -> Self {
@@ -521,11 +521,5 @@ impl<T> Clone for ValuedRanges<'_, T> {
             ranges: self.ranges.clone(),
             values: self.values,
         }
-    }
-}
-
-impl<T> fmt::Debug for ValuedRanges<'_, T> {
-    fn fmt(&self, f: &mut fmt::Formatter<'_>) -> fmt::Result {
-        f.debug_struct("ValuedRanges").finish_non_exhaustive()
     }
 }

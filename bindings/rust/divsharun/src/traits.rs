@@ -59,12 +59,12 @@ macro_rules! iterate {
     )+};
 }
 
-/// Implements `FusedIterator` and `Debug` of an iterator.
+/// Implements `FusedIterator` and `Debug` of an iterator, which can have a type of values.
 macro_rules! fused {
-    ($name:ident) => {
-        impl core::iter::FusedIterator for $name<'_> {}
+    ($name:ident $(<$value:ident>)?) => {
+        impl$(<$value>)? core::iter::FusedIterator for $name<'_ $(, $value)?> {}
 
-        impl core::fmt::Debug for $name<'_> {
+        impl$(<$value>)? core::fmt::Debug for $name<'_ $(, $value)?> {
             fn fmt(&self, f: &mut core::fmt::Formatter<'_>) -> core::fmt::Result {
                 f.debug_struct(stringify!($name)).finish_non_exhaustive()
             }

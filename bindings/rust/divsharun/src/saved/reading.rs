@@ -2,11 +2,12 @@
 //! Reads objects with serde. Fields can come in any order, and are checked as they come.
 
 use super::conditions::field_and_text;
+use super::{Map, ValuedRange};
 use crate::proved::vm_addresses::{AddressAllocator, RangeInclusive, ReadNodes, SavedError, Side};
-use crate::proved::vm_devices::{DeviceManager, ReadDevices};
+use crate::proved::vm_devices::{DeviceManager, DeviceSlot, ReadDevices};
 use crate::proved::vm_ids::{IdAllocator, ReadIds};
 use crate::rattle::{Global, Vec};
-use crate::{DeviceSlot, NodeState, TryError};
+use crate::{NodeState, TryError};
 use core::{fmt, mem};
 use serde::de::{DeserializeSeed, Error, MapAccess, SeqAccess, Visitor};
 use serde::{Deserialize, Deserializer};
@@ -256,7 +257,10 @@ struct Devices {
 }
 
 fn slots<'de, D: Deserializer<'de>>(from: D) -> Result<ReadDevices, D::Error> {
-    let push = |list: &mut ReadDevices, device: DeviceSlot| list.push(device.into());
+    let push = |list: &mut ReadDevices, crate::DeviceSlot { id, range }| {
+        let range = range.0;
+        list.push(DeviceSlot { id, range })
+    };
     from.deserialize_seq(List(ReadDevices::new(Global), push))
 }
 
@@ -272,34 +276,16 @@ impl<'de> Deserialize<'de> for DeviceManager {
     }
 }
 
-#[derive(Deserialize)]
-#[serde(rename = "RangeMap", deny_unknown_fields)]
-#[serde(bound(deserialize = "T: Deserialize<'de>"))]
-struct Map<T> {
-    base: u64,
-    size: u64,
-    #[serde(deserialize_with = "valued_ranges")]
-    ranges: Vec<ValuedRange<T>>,
-}
-
-/// A range of a map, and its value.
-#[derive(Deserialize)]
-#[serde(deny_unknown_fields)]
-struct ValuedRange<T> {
-    range: crate::RangeInclusive,
-    value: T,
-}
-
-fn valued_ranges<'de, T: Deserialize<'de>, D: Deserializer<'de>>(
-    from: D,
-) -> Result<Vec<ValuedRange<T>>, D::Error> {
-    let push = |list: &mut Vec<_>, item| list.push(item).map_err(|_| SavedError::OutOfMemory);
-    from.deserialize_seq(List(Vec::new(Global), push))
+impl<'de, T: Deserialize<'de>> Deserialize<'de> for Vec<T> {
+    fn deserialize<D: Deserializer<'de>>(from: D) -> Result<Self, D::Error> {
+        let push = |list: &mut Vec<T>, item| list.push(item).map_err(|_| SavedError::OutOfMemory);
+        from.deserialize_seq(List(Vec::new(Global), push))
+    }
 }
 
 impl<'de, T: Deserialize<'de>> Deserialize<'de> for crate::RangeMap<T> {
     fn deserialize<D: Deserializer<'de>>(from: D) -> Result<Self, D::Error> {
-        let saved = Map::deserialize(from)?;
+        let saved: Map<Vec<ValuedRange<T>>> = Map::deserialize(from)?;
         let mut map = crate::RangeMap::try_new(saved.base, saved.size).map_err(D::Error::custom)?;
         for ValuedRange { range, value } in alloc::vec::Vec::from(saved.ranges) {
             let exact = crate::AllocPolicy::ExactMatch(range.start());
