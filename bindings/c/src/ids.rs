@@ -3,12 +3,12 @@
 
 use crate::handle::{non_null, with_out, Handle};
 use crate::lists::array;
-use crate::objects::{calls, functions, object_calls, visits};
+use crate::objects::{calls, object_calls, visits};
 use crate::proved::vm_ids::IdAllocator;
 use crate::rattle::Global;
 use crate::status::{refused_id, DVS_NULL};
 use crate::texts::{read_ids, text_of};
-use crate::{dvs_refusal, dvs_status, status_of, CallError, Out};
+use crate::{dvs_refusal, dvs_status, status_of, CallError, In, Out};
 use core::ffi::{c_int, c_void};
 
 /// An id allocator behind a C pointer.
@@ -76,12 +76,6 @@ pub(crate) fn write_range(ids: &IdAllocator, first: Out<u32>) -> Result<u32, Cal
     Ok(ids.range_end())
 }
 
-functions! {
-    dvs_id_allocator_new(first: u32, last: u32) -> *mut dvs_id_allocator [refusal] {
-        Handle::new(IdAllocator::new(Global, first, last)?)
-    }
-}
-
 object_calls! {
     dvs_id_allocator: dvs_id_allocator_destroy, dvs_id_allocator_copy, dvs_id_allocator_equal,
         dvs_id_allocator_save by text_of,
@@ -89,26 +83,29 @@ object_calls! {
 }
 
 calls! {
-    changes dvs_id_allocate(ids: dvs_id_allocator) -> id: u32 { Ok(ids.allocate_id()?) }
-    changes dvs_id_allocate_in(ids: dvs_id_allocator, first: u32, last: u32)
+    makes dvs_id_allocator_new(first: u32, last: u32) -> made: *mut dvs_id_allocator [refusal] {
+        Handle::new(IdAllocator::new(Global, first, last)?)
+    }
+    changes dvs_id_allocate(ids: In<dvs_id_allocator>) -> id: u32 { Ok(ids.allocate_id()?) }
+    changes dvs_id_allocate_in(ids: In<dvs_id_allocator>, first: u32, last: u32)
         -> id: u32 [refusal] {
         Ok(ids.allocate_in(first, last)?)
     }
-    changes dvs_id_allocate_exact(ids: dvs_id_allocator, id: u32) [refusal] {
+    changes dvs_id_allocate_exact(ids: In<dvs_id_allocator>, id: u32) [refusal] {
         ids.allocate_exact(id).map(drop).map_err(|error| refused_id(error, id))
     }
-    changes dvs_id_free(ids: dvs_id_allocator, id: u32) [refusal] {
+    changes dvs_id_free(ids: In<dvs_id_allocator>, id: u32) [refusal] {
         Ok(ids.free_id(id).map(drop)?)
     }
-    reads dvs_id_allocator_range(ids: dvs_id_allocator, first: Out<u32>) -> last: u32 {
+    reads dvs_id_allocator_range(ids: In<dvs_id_allocator>, first: Out<u32>) -> last: u32 {
         write_range(ids, first)
     }
-    reads dvs_id_peek(ids: dvs_id_allocator) -> id: u32 { Ok(ids.peek_id()?) }
-    reads dvs_id_is_allocated(ids: dvs_id_allocator, id: u32) -> is_allocated: bool {
+    reads dvs_id_peek(ids: In<dvs_id_allocator>) -> id: u32 { Ok(ids.peek_id()?) }
+    reads dvs_id_is_allocated(ids: In<dvs_id_allocator>, id: u32) -> is_allocated: bool {
         Ok(ids.is_allocated(id))
     }
-    reads dvs_id_count(ids: dvs_id_allocator) -> count: u64 { Ok(ids.held_count()) }
-    reads dvs_id_free_count(ids: dvs_id_allocator) -> count: u64 { Ok(ids.free_count()) }
+    reads dvs_id_count(ids: In<dvs_id_allocator>) -> count: u64 { Ok(ids.held_count()) }
+    reads dvs_id_free_count(ids: In<dvs_id_allocator>) -> count: u64 { Ok(ids.free_count()) }
 }
 
 visits! {

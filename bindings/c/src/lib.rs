@@ -41,6 +41,9 @@ use crate::proved::vm_addresses::RangeInclusive;
 use core::mem::MaybeUninit;
 use status::{dvs_refusal, dvs_status, status_of, CallError};
 
+/// A pointer to an argument.
+type In<'a, T> = Option<&'a T>;
+
 /// The destination of a result.
 type Out<'a, T> = Option<&'a mut MaybeUninit<T>>;
 

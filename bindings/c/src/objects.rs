@@ -15,10 +15,10 @@ macro_rules! object_calls {
         }
 
         $crate::objects::calls! {
-            reads $copy(object: $handle) -> copied: *mut $handle {
+            reads $copy(object: $crate::In<$handle>) -> copied: *mut $handle {
                 $crate::handle::Handle::new(object.try_clone($crate::rattle::Global)?)
             }
-            reads $equal(one: $handle, other: Option<&$handle>) -> are_equal: bool {
+            reads $equal(one: $crate::In<$handle>, other: $crate::In<$handle>) -> are_equal: bool {
                 Ok(one == $crate::handle::non_null(other)?.get())
             }
         }
@@ -28,7 +28,7 @@ macro_rules! object_calls {
         $crate::objects::object_calls! { $handle: $destroy, $copy, $equal }
 
         $crate::objects::calls! {
-            reads $save(object: $handle, text: $crate::Out<*mut core::ffi::c_char>)
+            reads $save(object: $crate::In<$handle>, text: $crate::Out<*mut core::ffi::c_char>)
                 -> length: usize {
                 $crate::texts::save(text, || $saver(object))
             }
@@ -66,56 +66,42 @@ macro_rules! object_calls {
     };
 }
 
-/// Returns the object of a handle, for a call that reads or changes it.
-macro_rules! object {
-    (reads $handle:ident) => {
-        $handle.get()
+/// Returns what a call gets as its first argument: an object that it reads or changes, or a value of which it
+/// makes its result.
+macro_rules! argument {
+    (reads $object:ident) => {
+        $crate::handle::non_null($object)?.get()
     };
-    (changes $handle:ident) => {
-        $handle.get_mut()?
+    (changes $object:ident) => {
+        $crate::handle::non_null($object)?.get_mut()?
+    };
+    (makes $value:ident) => {
+        $value
     };
 }
 
-/// Defines calls on an object. Each has what it does with the object, the arguments, a request, the result,
-/// the details of an error, and a block for the result.
+/// Defines calls. Each has what it does with its first argument, the arguments, a request, the result, the
+/// details of an error, and a block for the result.
 macro_rules! calls {
-    ($($does:ident $name:ident($object:ident: $handle:ident
+    ($($does:ident $name:ident($first:ident: $first_type:ty
         $(, $argument:ident: $type:ty)* $(; $request:ident)?)
         $(-> $result:ident: $written:ty)? $([$refusal:ident])? $answer:block)+) => {$(
         #[unsafe(no_mangle)]
         pub extern "C" fn $name(
-            $object: Option<&$handle>,
+            $first: $first_type,
             $($argument: $type,)*
             $($request: Option<&$crate::requests::dvs_request>,)?
             $($result: $crate::Out<$written>,)?
             $($refusal: $crate::Out<$crate::dvs_refusal>,)?
         ) -> $crate::dvs_status {
             let call = || {
-                let $object = $crate::handle::non_null($object)?;
                 $(let $request = $crate::handle::non_null($request)?;)?
                 $(let $result = $crate::handle::non_null($result)?;)?
-                let $object = $crate::objects::object!($does $object);
+                let $first = $crate::objects::argument!($does $first);
                 $(let $request = $request.constraint()?;)?
                 $crate::handle::write($answer, None$(.or(Some($result)))?)
             };
             $crate::status_of(call(), None$(.or($refusal))?)
-        }
-    )+};
-}
-
-/// Defines calls without an object, which write a result.
-macro_rules! functions {
-    ($($name:ident($($argument:ident: $type:ty),+) -> $result:ty $([$refusal:ident])? {
-        $answer:expr
-    })+) => {$(
-        #[unsafe(no_mangle)]
-        pub extern "C" fn $name(
-            $($argument: $type,)+
-            result: $crate::Out<$result>,
-            $($refusal: $crate::Out<$crate::dvs_refusal>,)?
-        ) -> $crate::dvs_status {
-            let made = $crate::handle::with_out(result, || $answer);
-            $crate::status_of(made, None$(.or($refusal))?)
         }
     )+};
 }
@@ -140,4 +126,4 @@ macro_rules! visits {
     )+};
 }
 
-pub(crate) use {calls, functions, object, object_calls, visits};
+pub(crate) use {argument, calls, object_calls, visits};
