@@ -34,7 +34,6 @@ use core::fmt;
 /// # Ok::<(), Error>(())
 /// ```
 #[derive(PartialEq, Eq, PartialOrd, Ord)]
-#[cfg_attr(feature = "serde", derive(serde::Deserialize), serde(transparent))]
 pub struct AddressAllocator(pub(crate) proved::AddressAllocator);
 
 impl AddressAllocator {

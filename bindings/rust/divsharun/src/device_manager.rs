@@ -85,7 +85,6 @@ pub struct DeviceSlot {
 /// # Ok::<(), Error>(())
 /// ```
 #[derive(PartialEq, Eq)]
-#[cfg_attr(feature = "serde", derive(serde::Deserialize), serde(transparent))]
 pub struct DeviceManager(pub(crate) proved::DeviceManager);
 
 impl DeviceManager {

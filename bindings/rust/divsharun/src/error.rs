@@ -231,14 +231,8 @@ impl From<ListError> for Error {
     }
 }
 
-impl From<ListError> for TryError {
-    fn from(failure: ListError) -> TryError {
+impl<E: Into<TryError>> From<ListError<E>> for TryError {
+    fn from(failure: ListError<E>) -> TryError {
         failure.error.into()
-    }
-}
-
-impl From<ListError<TryError>> for TryError {
-    fn from(failure: ListError<TryError>) -> TryError {
-        failure.error
     }
 }

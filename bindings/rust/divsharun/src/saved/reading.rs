@@ -52,11 +52,7 @@ struct Tree {
 fn root<'de, D: Deserializer<'de>>(from: D) -> Result<ReadNodes, D::Error> {
     let mut nodes = ReadNodes::new(Global);
     // The root ends as a left child.
-    let tree = Subtree {
-        nodes: &mut nodes,
-        side: Side::Left,
-    };
-    tree.deserialize(from)?;
+    Subtree(&mut nodes, Side::Left).deserialize(from)?;
     Ok(nodes)
 }
 
@@ -70,9 +66,10 @@ impl Space {
     }
 }
 
-impl<'de> Deserialize<'de> for AddressAllocator {
+impl<'de> Deserialize<'de> for crate::AddressAllocator {
     fn deserialize<D: Deserializer<'de>>(from: D) -> Result<Self, D::Error> {
-        Space::deserialize(from)?.allocator(AddressAllocator::from_nodes_repaired)
+        let allocator = Space::deserialize(from)?.allocator(AddressAllocator::from_nodes_repaired);
+        allocator.map(crate::AddressAllocator)
     }
 }
 
@@ -105,20 +102,7 @@ struct Request {
 }
 
 /// Reads a node with its children, or none, as the child on a side of the node around it.
-struct Subtree<'a> {
-    nodes: &'a mut ReadNodes,
-    side: Side,
-}
-
-impl Subtree<'_> {
-    /// Returns a reader of a child of this node.
-    fn child(&mut self, side: Side) -> Subtree<'_> {
-        Subtree {
-            nodes: self.nodes,
-            side,
-        }
-    }
-}
+struct Subtree<'a>(&'a mut ReadNodes, Side);
 
 impl<'de> DeserializeSeed<'de> for Subtree<'_> {
     type Value = ();
@@ -144,7 +128,7 @@ impl<'de> Visitor<'de> for Subtree<'_> {
     }
 
     fn visit_some<D: Deserializer<'de>>(self, from: D) -> Result<(), D::Error> {
-        self.nodes.begin().map_err(invalid)?;
+        self.0.begin().map_err(invalid)?;
         from.deserialize_struct("InnerNode", FIELDS, InnerNode(self))
     }
 }
@@ -173,15 +157,6 @@ fn element<T, E: Error>(read: Option<T>, field: Field) -> Result<T, E> {
 /// Reads a node. A derive could not pass the other nodes on to its children.
 struct InnerNode<'a>(Subtree<'a>);
 
-impl InnerNode<'_> {
-    /// Ends the node. Its children have ended.
-    #[inline(always)]
-    fn end<E: Error>(self, key: RangeInclusive, state: NodeState, height: u64) -> Result<(), E> {
-        let Subtree { nodes, side } = self.0;
-        nodes.end(side, key, state.into(), height).map_err(invalid)
-    }
-}
-
 impl<'de> Visitor<'de> for InnerNode<'_> {
     type Value = ();
 
@@ -189,18 +164,20 @@ impl<'de> Visitor<'de> for InnerNode<'_> {
         f.write_str(NODE)
     }
 
-    fn visit_seq<A: SeqAccess<'de>>(mut self, mut from: A) -> Result<(), A::Error> {
+    fn visit_seq<A: SeqAccess<'de>>(self, mut from: A) -> Result<(), A::Error> {
+        let InnerNode(Subtree(nodes, side)) = self;
         let key = element(from.next_element()?, Field::Key)?;
-        let state = element(from.next_element()?, Field::NodeState)?;
-        let left = from.next_element_seed(self.0.child(Side::Left))?;
+        let state: NodeState = element(from.next_element()?, Field::NodeState)?;
+        let left = from.next_element_seed(Subtree(nodes, Side::Left))?;
         element(left, Field::Left)?;
-        let right = from.next_element_seed(self.0.child(Side::Right))?;
+        let right = from.next_element_seed(Subtree(nodes, Side::Right))?;
         element(right, Field::Right)?;
         let height = element(from.next_element()?, Field::Height)?;
-        self.end(key, state, height)
+        nodes.end(side, key, state.into(), height).map_err(invalid)
     }
 
-    fn visit_map<A: MapAccess<'de>>(mut self, mut from: A) -> Result<(), A::Error> {
+    fn visit_map<A: MapAccess<'de>>(self, mut from: A) -> Result<(), A::Error> {
+        let InnerNode(Subtree(nodes, side)) = self;
         let (mut key, mut state, mut height) = (None, NodeState::Free, 0);
         let mut seen = [false; FIELDS.len()];
         while let Some(field) = from.next_key::<Field>()? {
@@ -210,13 +187,13 @@ impl<'de> Visitor<'de> for InnerNode<'_> {
             match field {
                 Field::Key => key = Some(from.next_value()?),
                 Field::NodeState => state = from.next_value()?,
-                Field::Left => from.next_value_seed(self.0.child(Side::Left))?,
-                Field::Right => from.next_value_seed(self.0.child(Side::Right))?,
+                Field::Left => from.next_value_seed(Subtree(nodes, Side::Left))?,
+                Field::Right => from.next_value_seed(Subtree(nodes, Side::Right))?,
                 Field::Height => height = from.next_value()?,
             }
         }
         match (key, seen.iter().position(|seen| !seen)) {
-            (Some(key), None) => self.end(key, state, height),
+            (Some(key), None) => nodes.end(side, key, state.into(), height).map_err(invalid),
             (_, missing) => Err(A::Error::missing_field(FIELDS[missing.unwrap_or(0)])),
         }
     }
@@ -264,15 +241,15 @@ fn slots<'de, D: Deserializer<'de>>(from: D) -> Result<ReadDevices, D::Error> {
     from.deserialize_seq(List(ReadDevices::new(Global), push))
 }
 
-impl<'de> Deserialize<'de> for DeviceManager {
+impl<'de> Deserialize<'de> for crate::DeviceManager {
     fn deserialize<D: Deserializer<'de>>(from: D) -> Result<Self, D::Error> {
         let saved = Devices::deserialize(from)?;
+        let (version, ids) = (saved.version, saved.id_allocator);
         let space = saved
             .mmio_allocator
             .allocator(AddressAllocator::from_nodes)?;
-        let ids = saved.id_allocator;
-        DeviceManager::from_devices(Global, saved.version, ids, space, &saved.slots)
-            .map_err(invalid)
+        let made = DeviceManager::from_devices(Global, version, ids, space, &saved.slots);
+        made.map(crate::DeviceManager).map_err(invalid)
     }
 }
 
