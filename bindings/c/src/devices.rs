@@ -72,9 +72,9 @@ object_calls! {
 }
 
 calls! {
-    makes dvs_device_manager_new(first_id: u32, last_id: u32, base: u64, size: u64)
+    takes dvs_device_manager_new(first_id: u32, last_id: u32, base: u64, size: u64)
         -> made: *mut dvs_device_manager [refusal] {
-        Handle::new(DeviceManager::new(Global, first_id, last_id, base, size)?)
+        Ok(Handle::new(DeviceManager::new(Global, first_id, last_id, base, size)?)?)
     }
     changes dvs_device_reserve_first(manager: In<dvs_device_manager>, size: u64, alignment: u64)
         -> device: dvs_device [refusal] {
@@ -130,11 +130,11 @@ calls! {
     }
     reads dvs_device_manager_copy_addresses(manager: In<dvs_device_manager>)
         -> copied: *mut dvs_address_allocator {
-        Handle::new(manager.addresses().try_clone(Global)?)
+        Ok(Handle::new(manager.addresses().try_clone(Global)?)?)
     }
     reads dvs_device_manager_copy_ids(manager: In<dvs_device_manager>)
         -> copied: *mut dvs_id_allocator {
-        Handle::new(manager.ids().try_clone(Global)?)
+        Ok(Handle::new(manager.ids().try_clone(Global)?)?)
     }
 }
 

@@ -27,8 +27,8 @@ impl<T> Handle<T> {
     ///
     /// # Errors
     ///
-    /// - `OutOfMemory` if the allocation fails.
-    pub(crate) fn new<E: From<AllocError>>(object: T) -> Result<*mut Handle<T>, E> {
+    /// - `AllocError` if the allocation fails.
+    pub(crate) fn new(object: T) -> Result<*mut Handle<T>, AllocError> {
         // A vector reports a failed allocation, and a box does not.
         let mut one = alloc::vec::Vec::from(Vec::with_capacity(Global, 1)?);
         one.push(Handle {
@@ -100,16 +100,7 @@ pub(crate) fn visit<'a, T, I: Iterator>(
     Ok(())
 }
 
-/// Writes the result of a call without an object to `out`.
-pub(crate) fn with_out<A, E: From<dvs_status>>(
-    out: Out<A>,
-    answer: impl FnOnce() -> Result<A, E>,
-) -> Result<(), E> {
-    non_null(out)?.write(answer()?);
-    Ok(())
-}
-
-/// Writes the result of a call on an object to `out`, if the call has a result.
+/// Writes the result of a call to `out`, if the call has a result.
 #[inline(always)]
 pub(crate) fn write<A>(answer: Result<A, CallError>, out: Out<A>) -> Result<(), CallError> {
     let answer = answer?;

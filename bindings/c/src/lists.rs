@@ -1,7 +1,8 @@
 // SPDX-License-Identifier: Apache-2.0 OR BSD-3-Clause
 //! Calls with arrays of ranges and of requests.
 
-use crate::handle::{non_null, with_out, Handle};
+use crate::handle::{non_null, Handle};
+use crate::objects::calls;
 use crate::proved::vm_addresses::{
     AddressAllocator, AllocPolicy, Constraint, Error, ListError, RangeInclusive,
 };
@@ -9,7 +10,7 @@ use crate::ranges::dvs_address_allocator;
 use crate::rattle::{self, Global};
 use crate::requests::{because_of, dvs_request, in_the_way, refused};
 use crate::status::{DVS_CAUSE_EARLIER_REQUEST, DVS_NULL};
-use crate::{dvs_range, dvs_refusal, dvs_status, status_of, CallError, Out};
+use crate::{dvs_range, dvs_refusal, CallError, In, Out};
 use alloc::vec::Vec;
 use core::slice;
 
@@ -64,74 +65,26 @@ fn converted<T, P>(
     Ok(list)
 }
 
-/// Returns the status of a call with an array of `count` members. Writes the index of the member that
-/// failed to `failed`, or `count` if none did.
-fn status_of_array(
-    answer: Result<(), CallError>,
-    count: usize,
-    failed: Out<usize>,
-    refusal: Out<dvs_refusal>,
-) -> dvs_status {
+/// Writes the index of the member of an array that failed to `failed`, or the length of the array if none did.
+pub(crate) fn write_failed(answer: &Result<(), CallError>, length: usize, failed: Out<usize>) {
     if let Some(failed) = failed {
         let index = answer.as_ref().err().and_then(|failure| failure.index);
-        failed.write(index.unwrap_or(count));
+        failed.write(index.unwrap_or(length));
     }
-    status_of(answer, refusal)
 }
 
-/// Creates an allocator from an array of ranges, and writes its pointer to `out`.
+/// Converts an array of ranges.
 ///
 /// # Safety
 ///
-/// The array is null or points to `count` readable ranges.
-unsafe fn create_from(
+/// The array is null or has `count` readable ranges.
+unsafe fn ranges_of(
     ranges: *const dvs_range,
     count: usize,
-    out: Out<*mut dvs_address_allocator>,
-    made: impl FnOnce(&[RangeInclusive]) -> Result<AddressAllocator, ListError>,
-) -> Result<(), CallError> {
-    with_out(out, || {
-        // SAFETY: the caller's contract.
-        let ranges = unsafe { array(ranges, count) }?;
-        let ranges = converted(ranges, |range| Ok((*range).try_into()?))?;
-        Handle::new(made(&ranges)?)
-    })
-}
-
-/// # Safety
-///
-/// The array is null or points to `count` readable ranges.
-#[unsafe(no_mangle)]
-pub unsafe extern "C" fn dvs_address_allocator_with_held(
-    base: u64,
-    size: u64,
-    held: *const dvs_range,
-    count: usize,
-    allocator: Out<*mut dvs_address_allocator>,
-    failed: Out<usize>,
-    refusal: Out<dvs_refusal>,
-) -> dvs_status {
-    let made = |held: &_| AddressAllocator::with_held(Global, base, size, held);
+) -> Result<Vec<RangeInclusive>, CallError> {
     // SAFETY: the caller's contract.
-    let made = unsafe { create_from(held, count, allocator, made) };
-    status_of_array(made, count, failed, refusal)
-}
-
-/// # Safety
-///
-/// The array is null or points to `count` readable ranges.
-#[unsafe(no_mangle)]
-pub unsafe extern "C" fn dvs_address_allocator_with_free(
-    ranges: *const dvs_range,
-    count: usize,
-    allocator: Out<*mut dvs_address_allocator>,
-    failed: Out<usize>,
-    refusal: Out<dvs_refusal>,
-) -> dvs_status {
-    let made = |free: &_| AddressAllocator::with_free(Global, free);
-    // SAFETY: the caller's contract.
-    let made = unsafe { create_from(ranges, count, allocator, made) };
-    status_of_array(made, count, failed, refusal)
+    let ranges = unsafe { array(ranges, count) }?;
+    converted(ranges, |range| Ok((*range).try_into()?))
 }
 
 /// Returns the details of a request for a given start that only an earlier request of its list is in the way
@@ -141,26 +94,30 @@ fn earlier(request: Constraint) -> Option<dvs_refusal> {
     is_exact.then(|| because_of(DVS_CAUSE_EARLIER_REQUEST, request, dvs_range::default()))
 }
 
-/// # Safety
-///
-/// The requests are null or point to `count` readable requests. The ranges are null or point to
-/// `count` writable ranges.
-#[unsafe(no_mangle)]
-pub unsafe extern "C" fn dvs_address_allocator_allocate_all(
-    allocator: Option<&dvs_address_allocator>,
-    requests: *const dvs_request,
-    count: usize,
-    ranges: *mut dvs_range,
-    failed: Out<usize>,
-    refusal: Out<dvs_refusal>,
-) -> dvs_status {
-    let allocate = || {
+calls! {
+    takes dvs_address_allocator_with_held(
+        base: u64, size: u64, held: *const dvs_range, count: usize
+    ) -> made: *mut dvs_address_allocator, failed of count [refusal] {
+        // SAFETY: the array is as the header requires.
+        let held = unsafe { ranges_of(held, count) }?;
+        Ok(Handle::new(AddressAllocator::with_held(Global, base, size, &held)?)?)
+    }
+    takes dvs_address_allocator_with_free(ranges: *const dvs_range, count: usize)
+        -> made: *mut dvs_address_allocator, failed of count [refusal] {
+        // SAFETY: the array is as the header requires.
+        let free = unsafe { ranges_of(ranges, count) }?;
+        Ok(Handle::new(AddressAllocator::with_free(Global, &free)?)?)
+    }
+    takes dvs_address_allocator_allocate_all(
+        allocator: In<dvs_address_allocator>, requests: *const dvs_request, count: usize,
+        ranges: *mut dvs_range
+    ), failed of count [refusal] {
         let allocator = non_null(allocator)?;
         if count > 0 && (requests.is_null() || ranges.is_null()) {
             return Err(DVS_NULL.into());
         }
         let object = allocator.get_mut()?;
-        // SAFETY: the caller's contract.
+        // SAFETY: the array has `count` readable requests.
         let requests = unsafe { array(requests, count) }?;
         let requests = converted(requests, dvs_request::constraint)?;
         let allocated = object.allocate_all(Global, &requests);
@@ -173,10 +130,9 @@ pub unsafe extern "C" fn dvs_address_allocator_allocate_all(
             CallError { index, ..failure }
         })?;
         for (index, range) in allocated.iter().enumerate() {
-            // SAFETY: there is a writable range for each request.
+            // SAFETY: the array has a writable range for each request.
             unsafe { ranges.add(index).write((*range).into()) };
         }
         Ok(())
-    };
-    status_of_array(allocate(), count, failed, refusal)
+    }
 }

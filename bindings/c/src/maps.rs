@@ -34,8 +34,8 @@ impl From<ValuedRange> for dvs_valued_range {
 object_calls! { dvs_range_map: dvs_range_map_destroy, dvs_range_map_copy, dvs_range_map_equal }
 
 calls! {
-    makes dvs_range_map_new(base: u64, size: u64) -> made: *mut dvs_range_map {
-        Handle::new(RangeMap::new(Global, base, size)?)
+    takes dvs_range_map_new(base: u64, size: u64) -> made: *mut dvs_range_map {
+        Ok(Handle::new(RangeMap::new(Global, base, size)?)?)
     }
     changes dvs_range_map_allocate(map: In<dvs_range_map>, value: u64; request)
         -> range: dvs_range [refusal] {

@@ -5,18 +5,13 @@
 /// there are any.
 macro_rules! object_calls {
     ($handle:ident: $destroy:ident, $copy:ident, $equal:ident) => {
-        /// # Safety
-        ///
-        /// The object is null or from a call that creates one, and is not used after `DVS_OK`.
-        #[unsafe(no_mangle)]
-        pub unsafe extern "C" fn $destroy(object: *mut $handle) -> $crate::dvs_status {
-            // SAFETY: the caller's contract.
-            $crate::status_of(unsafe { $crate::handle::Handle::destroy(object) }, None)
-        }
-
         $crate::objects::calls! {
+            takes $destroy(object: *mut $handle) {
+                // SAFETY: the object is null or from a call that creates one, and is not used after `DVS_OK`.
+                unsafe { $crate::handle::Handle::destroy(object) }
+            }
             reads $copy(object: $crate::In<$handle>) -> copied: *mut $handle {
-                $crate::handle::Handle::new(object.try_clone($crate::rattle::Global)?)
+                Ok($crate::handle::Handle::new(object.try_clone($crate::rattle::Global)?)?)
             }
             reads $equal(one: $crate::In<$handle>, other: $crate::In<$handle>) -> are_equal: bool {
                 Ok(one == $crate::handle::non_null(other)?.get())
@@ -55,7 +50,7 @@ macro_rules! object_calls {
             pub unsafe extern "C" fn $read_within(
                 text: *const core::ffi::c_char,
                 length: usize,
-                limits: Option<&$crate::json::dvs_text_limits>,
+                limits: $crate::In<$crate::json::dvs_text_limits>,
                 object: $crate::Out<*mut $handle>,
                 fault: $crate::Out<$crate::json::dvs_text_fault>,
             ) -> $crate::dvs_status {
@@ -66,8 +61,7 @@ macro_rules! object_calls {
     };
 }
 
-/// Returns what a call gets as its first argument: an object that it reads or changes, or a value of which it
-/// makes its result.
+/// Returns the first argument of a call, or the object that it points to, if the call reads or changes one.
 macro_rules! argument {
     (reads $object:ident) => {
         $crate::handle::non_null($object)?.get()
@@ -75,23 +69,29 @@ macro_rules! argument {
     (changes $object:ident) => {
         $crate::handle::non_null($object)?.get_mut()?
     };
-    (makes $value:ident) => {
+    (takes $value:ident) => {
         $value
     };
 }
 
 /// Defines calls. Each has what it does with its first argument, the arguments, a request, the result, the
-/// details of an error, and a block for the result.
+/// index of the member that failed of an array with a length, the details of an error, and a block for the
+/// result.
 macro_rules! calls {
     ($($does:ident $name:ident($first:ident: $first_type:ty
         $(, $argument:ident: $type:ty)* $(; $request:ident)?)
-        $(-> $result:ident: $written:ty)? $([$refusal:ident])? $answer:block)+) => {$(
+        $(-> $result:ident: $written:ty)? $(, $failed:ident of $length:ident)? $([$refusal:ident])?
+        $answer:block)+) => {$(
+        /// # Safety
+        ///
+        /// The arguments are as the header requires.
         #[unsafe(no_mangle)]
-        pub extern "C" fn $name(
+        pub unsafe extern "C" fn $name(
             $first: $first_type,
             $($argument: $type,)*
-            $($request: Option<&$crate::requests::dvs_request>,)?
+            $($request: $crate::In<$crate::requests::dvs_request>,)?
             $($result: $crate::Out<$written>,)?
+            $($failed: $crate::Out<usize>,)?
             $($refusal: $crate::Out<$crate::dvs_refusal>,)?
         ) -> $crate::dvs_status {
             let call = || {
@@ -101,7 +101,9 @@ macro_rules! calls {
                 $(let $request = $request.constraint()?;)?
                 $crate::handle::write($answer, None$(.or(Some($result)))?)
             };
-            $crate::status_of(call(), None$(.or($refusal))?)
+            let answer = call();
+            $($crate::lists::write_failed(&answer, $length, $failed);)?
+            $crate::status_of(answer, None$(.or($refusal))?)
         }
     )+};
 }
@@ -111,9 +113,12 @@ macro_rules! calls {
 macro_rules! visits {
     ($($name:ident($object:ident: $handle:ident $(, $argument:ident: $type:ty)*) by $visitor:ident
         $([$refusal:ident])? { $items:expr })+) => {$(
+        /// # Safety
+        ///
+        /// The arguments are as the header requires.
         #[unsafe(no_mangle)]
-        pub extern "C" fn $name(
-            object: Option<&$handle>,
+        pub unsafe extern "C" fn $name(
+            object: $crate::In<$handle>,
             $($argument: $type,)*
             visitor: Option<$visitor>,
             context: *mut core::ffi::c_void,

@@ -94,13 +94,13 @@ object_calls! {
 }
 
 calls! {
-    makes dvs_address_allocator_new(base: u64, size: u64) -> made: *mut dvs_address_allocator {
-        Handle::new(AddressAllocator::new(Global, base, size)?)
+    takes dvs_address_allocator_new(base: u64, size: u64) -> made: *mut dvs_address_allocator {
+        Ok(Handle::new(AddressAllocator::new(Global, base, size)?)?)
     }
-    makes dvs_range_from_start_length(start: u64, length: u64) -> range: dvs_range {
+    takes dvs_range_from_start_length(start: u64, length: u64) -> range: dvs_range {
         Ok(RangeInclusive::from_start_len(start, length)?.into())
     }
-    makes dvs_range_offset_of(range: dvs_range, address: u64) -> offset: u64 {
+    takes dvs_range_offset_of(range: dvs_range, address: u64) -> offset: u64 {
         found(RangeInclusive::try_from(range)?.offset_of(address))
     }
     changes dvs_range_allocate_first(space: In<dvs_address_allocator>, size: u64, alignment: u64)

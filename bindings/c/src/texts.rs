@@ -1,7 +1,7 @@
 // SPDX-License-Identifier: Apache-2.0 OR BSD-3-Clause
 //! Saving objects as JSON, and reading them.
 
-use crate::handle::{non_null, with_out, Handle};
+use crate::handle::{non_null, Handle};
 use crate::json::{dvs_text_fault, dvs_text_limits, Read, Reader, TextFault};
 use crate::proved::vm_addresses::{AddressAllocator, RangeInclusive, ReadNodes, SavedError, Side};
 use crate::proved::vm_devices::{DeviceManager, DeviceSlot, ReadDevices};
@@ -177,13 +177,14 @@ pub(crate) unsafe fn read<T>(
     fault: Out<dvs_text_fault>,
     read: fn(&mut Reader<'_>) -> Read<T>,
 ) -> dvs_status {
-    let make = || {
-        let limits = limits.copied().unwrap_or_default();
+    let make = || -> Read<()> {
+        let (out, limits) = (non_null(out)?, limits.copied().unwrap_or_default());
         // SAFETY: the caller's contract.
         let text = unsafe { text_from(text, length, limits) }?;
-        Handle::new(read_all(text, limits, read)?)
+        out.write(Handle::new(read_all(text, limits, read)?)?);
+        Ok(())
     };
-    status_of(with_out(out, make), fault)
+    status_of(make(), fault)
 }
 
 /// Returns the text of a caller.
