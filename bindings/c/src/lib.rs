@@ -57,10 +57,8 @@ pub struct dvs_range {
 
 impl From<RangeInclusive> for dvs_range {
     fn from(range: RangeInclusive) -> Self {
-        dvs_range {
-            start: range.start(),
-            end: range.end(),
-        }
+        let (start, end) = (range.start(), range.end());
+        dvs_range { start, end }
     }
 }
 

@@ -20,10 +20,8 @@ pub type dvs_range_visitor = extern "C-unwind" fn(context: *mut c_void, range: d
 
 /// Returns the range from the first to the last address of the space.
 pub(crate) fn space_of(allocator: &AddressAllocator) -> dvs_range {
-    dvs_range {
-        start: allocator.base(),
-        end: allocator.end(),
-    }
+    let (start, end) = (allocator.base(), allocator.end());
+    dvs_range { start, end }
 }
 
 #[inline(always)]

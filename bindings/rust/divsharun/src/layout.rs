@@ -207,19 +207,16 @@ pub struct Blocks<'a> {
 }
 
 impl<'a> Blocks<'a> {
+    /// Returns an allocated block, with the last name that was given to its range.
     fn allocated(&self, range: RangeInclusive) -> Block<'a> {
+        let upto = self.names.partition_point(|(named, ..)| *named <= range);
+        let last = self.names[..upto].last();
+        let last = last.filter(|(named, ..)| *named == range);
         Block {
             range,
             state: NodeState::Allocated,
-            name: self.name(range),
+            name: last.map(|(.., name)| *name),
         }
-    }
-
-    /// Returns the last name that was given to the range.
-    fn name(&self, range: RangeInclusive) -> Option<&'a str> {
-        let upto = self.names.partition_point(|(named, ..)| *named <= range);
-        let (named, _, name) = self.names[..upto].last()?;
-        (*named == range).then_some(*name)
     }
 
     /// Returns a gap. A space never has all 2^64 addresses, so each of its blocks is a range.

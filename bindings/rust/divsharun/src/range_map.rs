@@ -4,10 +4,9 @@ use crate::convert::out_of_memory;
 use crate::error::TryResult;
 use crate::proved::vm_addresses::{self, RangeInclusive as Range};
 use crate::proved::vm_range_map as proved;
-use crate::rattle::Global;
+use crate::rattle::{Global, Vec};
 use crate::traits::{fused, twins, DebugList};
-use crate::{AllocPolicy, Constraint, RangeInclusive, Result, TryError};
-use alloc::vec::Vec;
+use crate::{AllocPolicy, Constraint, RangeInclusive, Result};
 use core::fmt;
 
 /// Allocates ranges of addresses from one space, and keeps a value with each allocated range, such as
@@ -69,7 +68,7 @@ impl<T> RangeMap<T> {
         /// # Ok::<(), Error>(())
         /// ```
         pub fn new(base: u64, size: u64) -> Result<Self> {
-            let (ranges, values) = (proved::RangeMap::new(Global, base, size)?, Vec::new());
+            let (ranges, values) = (proved::RangeMap::new(Global, base, size)?, Vec::new(Global));
             Ok(RangeMap { ranges, values })
         }
 
@@ -211,11 +210,10 @@ impl<T> RangeMap<T> {
 
     /// Keeps the value of a range that is allocated. Without memory for it, the range is freed.
     fn keep(&mut self, range: Range, value: T) -> vm_addresses::Result<Range> {
-        if self.values.try_reserve(1).is_err() {
+        if let Err(failed) = self.values.push((range.start(), value)) {
             let _ = self.ranges.free(&range);
-            return Err(vm_addresses::Error::OutOfMemory);
+            return Err(failed.into());
         }
-        self.values.push((range.start(), value));
         Ok(range)
     }
 
@@ -435,10 +433,7 @@ impl<T> RangeMap<T> {
         T: Clone,
     {
         let ranges = self.ranges.try_clone(Global)?;
-        let mut values = Vec::new();
-        let reserved = values.try_reserve_exact(self.values.len());
-        reserved.map_err(|_| TryError::OutOfMemory)?;
-        values.extend_from_slice(&self.values);
+        let values = self.values.clone().map_err(vm_addresses::Error::from)?;
         Ok(RangeMap { ranges, values })
     }
 }
