@@ -24,24 +24,20 @@ pub(crate) trait Sink {
 }
 
 /// Counts the bytes of a text.
-struct TextLength(usize);
-
-impl Sink for TextLength {
+impl Sink for usize {
     fn text(&mut self, text: &str) {
-        self.0 += text.len();
+        *self += text.len();
     }
 
     fn number(&mut self, number: u64) {
-        self.0 += number.checked_ilog10().unwrap_or(0) as usize + 1;
+        *self += number.checked_ilog10().unwrap_or(0) as usize + 1;
     }
 }
 
-/// A text in a buffer with the capacity for it.
-struct TextBuffer(Vec<u8>);
-
-impl Sink for TextBuffer {
+/// Appends a text. There is memory for it.
+impl Sink for Vec<u8> {
     fn text(&mut self, text: &str) {
-        self.0.extend_from_slice(text.as_bytes());
+        self.extend_from_slice(text.as_bytes());
     }
 
     fn number(&mut self, mut number: u64) {
@@ -53,7 +49,7 @@ impl Sink for TextBuffer {
             first -= 1;
         }
         digits[first] += number as u8;
-        self.0.extend_from_slice(&digits[first..]);
+        self.extend_from_slice(&digits[first..]);
     }
 }
 
@@ -142,12 +138,12 @@ pub(crate) fn save_devices(manager: &DeviceManager) -> Result<CString, CallError
 
 /// Returns the text of a value. It is counted first, so that it is allocated once.
 pub(crate) fn text_of(value: &impl Json) -> Result<CString, CallError> {
-    let mut counted = TextLength(0);
-    value.write(&mut counted);
-    let mut written = TextBuffer(rattle::Vec::with_capacity(Global, counted.0 + 1)?.into());
-    value.write(&mut written);
-    written.0.push(0);
-    Ok(CString::from_vec_with_nul(written.0).expect("JSON contains no zero byte"))
+    let mut length = 0;
+    value.write(&mut length);
+    let mut text = Vec::from(rattle::Vec::with_capacity(Global, length + 1)?);
+    value.write(&mut text);
+    text.push(0);
+    Ok(CString::from_vec_with_nul(text).expect("JSON contains no zero byte"))
 }
 
 /// Writes the text of a saved object to `text`, and returns its length.

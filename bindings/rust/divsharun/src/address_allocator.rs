@@ -316,8 +316,7 @@ impl AddressAllocator {
             alignment: u64,
             policy: AllocPolicy,
         ) -> Result<RangeInclusive> {
-            let allocated = self.0.allocate(Global, size, alignment, policy.proved());
-            Ok(RangeInclusive(allocated?))
+            Ok(RangeInclusive(self.0.allocate(Global, size, alignment, policy.proved())?))
         }
 
         /// Allocates a range like [`allocate`](Self::allocate), but returns an error if memory
@@ -514,8 +513,7 @@ impl AddressAllocator {
             key: &RangeInclusive,
             request: Constraint,
         ) -> Result<RangeInclusive> {
-            let moved = self.0.move_constraint(Global, &key.0, request.0);
-            Ok(RangeInclusive(moved?))
+            Ok(RangeInclusive(self.0.move_constraint(Global, &key.0, request.0)?))
         }
 
         /// Moves a range like [`move_constraint`](Self::move_constraint), but returns an error if memory

@@ -110,8 +110,7 @@ impl DeviceManager {
         /// # Ok::<(), Error>(())
         /// ```
         pub fn new(id_lo: u32, id_hi: u32, base: u64, size: u64) -> Result<Self> {
-            let made = proved::DeviceManager::new(Global, id_lo, id_hi, base, size);
-            Ok(Self(made?))
+            Ok(Self(proved::DeviceManager::new(Global, id_lo, id_hi, base, size)?))
         }
 
         /// Creates a manager like [`new`](Self::new), but returns an error if memory runs out.

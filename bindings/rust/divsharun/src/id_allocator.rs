@@ -47,8 +47,11 @@ use core::fmt;
 /// # Ok::<(), Error>(())
 /// ```
 #[derive(PartialEq, Eq)]
-#[cfg_attr(feature = "serde", derive(serde::Serialize, serde::Deserialize))]
-#[cfg_attr(feature = "serde", serde(transparent))]
+#[cfg_attr(
+    feature = "serde",
+    derive(serde::Serialize, serde::Deserialize),
+    serde(transparent)
+)]
 pub struct IdAllocator(pub(crate) proved::IdAllocator);
 
 impl IdAllocator {
@@ -71,8 +74,9 @@ impl IdAllocator {
     /// # Ok::<(), Error>(())
     /// ```
     pub fn new(range_base: u32, range_end: u32) -> Result<Self> {
-        let made = proved::IdAllocator::new(Global, range_base, range_end)?;
-        Ok(IdAllocator(made))
+        Ok(Self(proved::IdAllocator::new(
+            Global, range_base, range_end,
+        )?))
     }
 
     twins! {
@@ -103,8 +107,7 @@ impl IdAllocator {
         /// # Ok::<(), Error>(())
         /// ```
         pub fn with_held(range_base: u32, range_end: u32, held: &[u32]) -> Result<Self> {
-            let made = proved::IdAllocator::with_held(Global, range_base, range_end, held);
-            Ok(Self(made?))
+            Ok(Self(proved::IdAllocator::with_held(Global, range_base, range_end, held)?))
         }
 
         /// Creates an allocator like [`with_held`](Self::with_held), but returns an error if memory
