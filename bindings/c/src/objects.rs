@@ -112,23 +112,17 @@ macro_rules! calls {
 /// `[refusal]` also writes the details of an error there.
 macro_rules! visits {
     ($($name:ident($object:ident: $handle:ident $(, $argument:ident: $type:ty)*) by $visitor:ident
-        $([$refusal:ident])? { $items:expr })+) => {$(
-        /// # Safety
-        ///
-        /// The arguments are as the header requires.
-        #[unsafe(no_mangle)]
-        pub unsafe extern "C" fn $name(
-            object: $crate::In<$handle>,
-            $($argument: $type,)*
-            visitor: Option<$visitor>,
-            context: *mut core::ffi::c_void,
-            $($refusal: $crate::Out<$crate::dvs_refusal>,)?
-        ) -> $crate::dvs_status {
-            let visitor = visitor.map(|visitor| move |item| visitor(context, Into::into(item)));
-            let visited = $crate::handle::visit(object, |$object| Ok($items), visitor);
-            $crate::status_of(visited, None$(.or($refusal))?)
-        }
-    )+};
+        $([$refusal:ident])? { $items:expr })+) => {
+        $crate::objects::calls! {$(
+            takes $name(
+                object: $crate::In<$handle> $(, $argument: $type)*,
+                visitor: Option<$visitor>, context: *mut core::ffi::c_void
+            ) $([$refusal])? {
+                let visitor = visitor.map(|visitor| move |item| visitor(context, Into::into(item)));
+                $crate::handle::visit(object, |$object| Ok($items), visitor)
+            }
+        )+}
+    };
 }
 
 pub(crate) use {argument, calls, object_calls, visits};
