@@ -67,7 +67,7 @@ pub struct dvs_refusal {
     pub(crate) cause: u32,
 }
 
-/// The status of a call that failed, and what its caller can get besides.
+/// The status of a call that failed, and its details for the caller.
 pub(crate) struct Failure<D> {
     pub(crate) status: dvs_status,
     pub(crate) details: D,
@@ -94,10 +94,7 @@ impl From<dvs_status> for CallError {
     }
 }
 
-impl<D> From<AllocError> for Failure<D>
-where
-    Self: From<dvs_status>,
-{
+impl From<AllocError> for CallError {
     fn from(_: AllocError) -> Self {
         DVS_OUT_OF_MEMORY.into()
     }

@@ -8,7 +8,9 @@ use crate::proved::vm_devices::{DeviceManager, DeviceSlot, ReadDevices};
 use crate::proved::vm_ids::{IdAllocator, ReadIds};
 use crate::proved::vm_ranges::NodeState;
 use crate::rattle::{self, Global};
-use crate::status::{DVS_LIMIT_EXCEEDED, DVS_NOT_A_STATE, DVS_NOT_JSON, DVS_NULL};
+use crate::status::{
+    DVS_LIMIT_EXCEEDED, DVS_NOT_A_STATE, DVS_NOT_JSON, DVS_NULL, DVS_OUT_OF_MEMORY,
+};
 use crate::{dvs_status, status_of, CallError, Out};
 use alloc::ffi::CString;
 use alloc::vec::Vec;
@@ -177,7 +179,8 @@ pub(crate) unsafe fn read<T>(
         let (out, limits) = (non_null(out)?, limits.copied().unwrap_or_default());
         // SAFETY: the caller's contract.
         let text = unsafe { text_from(text, length, limits) }?;
-        out.write(Handle::new(read_all(text, limits, read)?)?);
+        let made = Handle::new(read_all(text, limits, read)?);
+        out.write(made.map_err(|_| DVS_OUT_OF_MEMORY)?);
         Ok(())
     };
     status_of(make(), fault)
