@@ -74,9 +74,9 @@ macro_rules! argument {
     };
 }
 
-/// Defines calls. Each has what it does with its first argument, the arguments, a request, the result, the
-/// index of the member that failed of an array with a length, the details of an error, and a block for the
-/// result.
+/// Defines calls. A call has what it does with its first argument, its arguments, a request and its result.
+/// It can also write the index of the member that failed of an array, and the details of an error. The block
+/// returns the result.
 macro_rules! calls {
     ($($does:ident $name:ident($first:ident: $first_type:ty
         $(, $argument:ident: $type:ty)* $(; $request:ident)?)

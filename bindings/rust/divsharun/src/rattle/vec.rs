@@ -86,7 +86,7 @@ impl<T> From<Vec<T>> for alloc::vec::Vec<T> {
     }
 }
 
-/// The methods that do not allocate are those of Rust's vector.
+/// The methods that do not allocate are those of `alloc::vec::Vec`.
 impl<T> Deref for Vec<T> {
     type Target = alloc::vec::Vec<T>;
 
