@@ -1290,7 +1290,9 @@ pub struct Gaps<'a>(proved::Ranges<'a>);
 #[derive(Clone)]
 pub struct GapsIn<'a>(proved::RangesIn<'a>);
 
-iterate!(HeldRanges, Gaps, HeldRangesIn, GapsIn: RangeInclusive, RangeInclusive);
+iterate! {
+    HeldRanges, Gaps, HeldRangesIn, GapsIn: RangeInclusive, |_ranges, range| RangeInclusive(range)
+}
 allocator!(AddressAllocator, HeldRanges of RangeInclusive, "the allocated ranges");
 
 impl ExactSizeIterator for HeldRanges<'_> {}

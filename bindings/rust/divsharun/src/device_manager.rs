@@ -682,7 +682,7 @@ impl fmt::Debug for DeviceManager {
 #[derive(Clone)]
 pub struct Devices<'a>(proved::Devices<'a>);
 
-iterate!(Devices: DeviceSlot, Into::into);
+iterate!(Devices: DeviceSlot, |_devices, device| device.into());
 allocator!(DeviceManager, Devices of DeviceSlot, "the devices");
 
 impl ExactSizeIterator for Devices<'_> {}

@@ -5,7 +5,7 @@ use crate::error::TryResult;
 use crate::proved::vm_addresses::{self, RangeInclusive as Range};
 use crate::proved::vm_range_map as proved;
 use crate::rattle::{Global, Vec};
-use crate::traits::{fused, twins, DebugList};
+use crate::traits::{iterate, twins, DebugList};
 use crate::{AllocPolicy, Constraint, RangeInclusive, Result};
 use core::fmt;
 
@@ -371,10 +371,7 @@ impl<T> RangeMap<T> {
     /// ```
     #[must_use]
     pub fn iter(&self) -> ValuedRanges<'_, T> {
-        ValuedRanges {
-            ranges: self.ranges.iter(),
-            values: &self.values,
-        }
+        ValuedRanges(self.ranges.iter(), &self.values)
     }
 
     /// Returns the number of allocated ranges in constant time.
@@ -476,45 +473,17 @@ impl<'a, T> IntoIterator for &'a RangeMap<T> {
 /// both ends. Its length is exact.
 ///
 /// It is created by [`iter`](RangeMap::iter).
-pub struct ValuedRanges<'a, T> {
-    ranges: proved::ValuedRanges<'a>,
-    values: &'a [(u64, T)],
-}
+pub struct ValuedRanges<'a, T>(proved::ValuedRanges<'a>, &'a [(u64, T)]);
 
-impl<'a, T> ValuedRanges<'a, T> {
-    /// Returns the range and the value of an item of the proved code.
-    fn item(&self, at: proved::ValuedRange) -> (RangeInclusive, &'a T) {
-        (RangeInclusive(at.range), &self.values[at.value as usize].1)
-    }
-}
-
-impl<'a, T> Iterator for ValuedRanges<'a, T> {
-    type Item = (RangeInclusive, &'a T);
-
-    fn next(&mut self) -> Option<Self::Item> {
-        self.ranges.next().map(|at| self.item(at))
-    }
-
-    fn size_hint(&self) -> (usize, Option<usize>) {
-        self.ranges.size_hint()
-    }
-}
-
-impl<T> DoubleEndedIterator for ValuedRanges<'_, T> {
-    fn next_back(&mut self) -> Option<Self::Item> {
-        self.ranges.next_back().map(|at| self.item(at))
-    }
+iterate! {
+    ValuedRanges<T>: (RangeInclusive, &'a T),
+    |ranges, at| (RangeInclusive(at.range), &ranges.1[at.value as usize].1)
 }
 
 impl<T> ExactSizeIterator for ValuedRanges<'_, T> {}
 
-fused!(ValuedRanges<T>);
-
 impl<T> Clone for ValuedRanges<'_, T> {
     fn clone(&self) -> Self {
-        ValuedRanges {
-            ranges: self.ranges.clone(),
-            values: self.values,
-        }
+        ValuedRanges(self.0.clone(), self.1)
     }
 }

@@ -34,14 +34,16 @@ macro_rules! allocator {
     };
 }
 
-/// Implements iterators by those of the proved code, with a function that converts an item.
+/// Implements iterators, which can have a type of values, by those of the proved code. An expression converts an
+/// item that the iterator has found.
 macro_rules! iterate {
-    ($($name:ident),+: $item:ty, $convert:expr) => {$(
-        impl Iterator for $name<'_> {
+    ($($name:ident $(<$value:ident>)?),+: $item:ty, |$iterator:ident, $found:ident| $converted:expr) => {$(
+        impl<'a $(, $value)?> Iterator for $name<'a $(, $value)?> {
             type Item = $item;
 
             fn next(&mut self) -> Option<$item> {
-                self.0.next().map($convert)
+                let ($found, $iterator) = (self.0.next()?, self);
+                Some($converted)
             }
 
             fn size_hint(&self) -> (usize, Option<usize>) {
@@ -49,13 +51,14 @@ macro_rules! iterate {
             }
         }
 
-        impl DoubleEndedIterator for $name<'_> {
+        impl<'a $(, $value)?> DoubleEndedIterator for $name<'a $(, $value)?> {
             fn next_back(&mut self) -> Option<$item> {
-                self.0.next_back().map($convert)
+                let ($found, $iterator) = (self.0.next_back()?, self);
+                Some($converted)
             }
         }
 
-        $crate::traits::fused!($name);
+        $crate::traits::fused!($name $(<$value>)?);
     )+};
 }
 
