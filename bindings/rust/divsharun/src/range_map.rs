@@ -1,11 +1,10 @@
 // SPDX-License-Identifier: Apache-2.0 OR BSD-3-Clause
 use crate::address_allocator::space_of;
-use crate::convert::out_of_memory;
 use crate::error::TryResult;
 use crate::proved::vm_addresses::{self, RangeInclusive as Range};
 use crate::proved::vm_range_map as proved;
 use crate::rattle::{Global, Vec};
-use crate::traits::{iterate, twins, DebugList};
+use crate::traits::{allocator, iterate, twins, DebugList};
 use crate::{AllocPolicy, Constraint, RangeInclusive, Result};
 use core::fmt;
 
@@ -435,10 +434,8 @@ impl<T> RangeMap<T> {
     }
 }
 
-impl<T: Clone> Clone for RangeMap<T> {
-    fn clone(&self) -> Self {
-        self.try_clone().unwrap_or_else(|_| out_of_memory())
-    }
+allocator! {
+    RangeMap<T>, ValuedRanges of (RangeInclusive, &'a T), "the allocated ranges with their values"
 }
 
 impl<T: PartialEq> PartialEq for RangeMap<T> {
@@ -456,16 +453,6 @@ impl<T: fmt::Debug> fmt::Debug for RangeMap<T> {
             .field("space", &self.space())
             .field("ranges", &DebugList(|| self.iter()))
             .finish()
-    }
-}
-
-impl<'a, T> IntoIterator for &'a RangeMap<T> {
-    type Item = (RangeInclusive, &'a T);
-    type IntoIter = ValuedRanges<'a, T>;
-
-    /// Returns an iterator over the allocated ranges with their values.
-    fn into_iter(self) -> ValuedRanges<'a, T> {
-        self.iter()
     }
 }
 

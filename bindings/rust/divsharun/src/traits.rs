@@ -12,22 +12,22 @@ impl<I: Iterator<Item: fmt::Debug>, F: Fn() -> I> fmt::Debug for DebugList<F> {
     }
 }
 
-/// Implements `Clone` by `try_clone`, and `IntoIterator` by `iter`.
+/// Implements `Clone` by `try_clone`, and `IntoIterator` by `iter`, of an object that can have a type of values.
 macro_rules! allocator {
-    ($allocator:ident, $items:ident of $item:ty, $what:literal) => {
-        impl Clone for $allocator {
+    ($allocator:ident $(<$value:ident>)?, $items:ident of $item:ty, $what:literal) => {
+        impl$(<$value: Clone>)? Clone for $allocator$(<$value>)? {
             fn clone(&self) -> Self {
                 let copy = self.try_clone();
                 copy.unwrap_or_else(|_| $crate::convert::out_of_memory())
             }
         }
 
-        impl<'a> IntoIterator for &'a $allocator {
+        impl<'a $(, $value)?> IntoIterator for &'a $allocator$(<$value>)? {
             type Item = $item;
-            type IntoIter = $items<'a>;
+            type IntoIter = $items<'a $(, $value)?>;
 
             #[doc = concat!("Returns an iterator over ", $what, ".")]
-            fn into_iter(self) -> $items<'a> {
+            fn into_iter(self) -> Self::IntoIter {
                 self.iter()
             }
         }
