@@ -371,19 +371,15 @@ impl<'a> Reader<'a> {
             self.at += known[place].to_bytes().len() + 1;
             return Ok(Some(place));
         }
-        let (mut start, mut length) = (['\0'; MANY_BYTES], 0);
+        let (mut bytes, mut length) = ([0; MANY_BYTES], 0);
         while let Some(character) = self.character()? {
-            if let Some(place) = start.get_mut(length) {
-                *place = character;
+            if let Some(byte) = bytes.get_mut(length) {
+                // No name has a character that is not ASCII.
+                *byte = u8::try_from(character).unwrap_or(u8::MAX);
                 length += 1;
             }
         }
-        let is_same = |known: &&CStr| {
-            let bytes = known.to_bytes().iter();
-            bytes
-                .map(|byte| char::from(*byte))
-                .eq(start[..length].iter().copied())
-        };
+        let is_same = |known: &&CStr| known.to_bytes() == &bytes[..length];
         Ok(known.iter().position(is_same))
     }
 

@@ -40,17 +40,15 @@ calls! {
     changes dvs_range_map_allocate(map: In<dvs_range_map>, value: u64; request)
         -> range: dvs_range [refusal] {
         let allocated = map.allocate_constraint(Global, request, value);
-        answered(allocated, refusal.is_some(), || {
-            in_the_way(request, map.addresses().conflict(request))
-        })
+        let details = || in_the_way(request, map.addresses().conflict(request));
+        answered(allocated, refusal.is_some(), details)
     }
     changes dvs_range_map_move(map: In<dvs_range_map>, range: dvs_range; request)
         -> moved: dvs_range [refusal] {
         let range = range.try_into()?;
         let moved = map.move_constraint(Global, &range, request);
-        answered(moved, refusal.is_some(), || {
-            in_the_way(request, map.addresses().move_conflict(&range, request))
-        })
+        let details = || in_the_way(request, map.addresses().move_conflict(&range, request));
+        answered(moved, refusal.is_some(), details)
     }
     changes dvs_range_map_free(map: In<dvs_range_map>, range: dvs_range) -> value: u64 [refusal] {
         Ok(map.free(&range.try_into()?)?)

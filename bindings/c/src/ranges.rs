@@ -31,9 +31,8 @@ fn allocate(
     wants_details: bool,
 ) -> Result<dvs_range, CallError> {
     let allocated = space.allocate_constraint(Global, request);
-    answered(allocated, wants_details, || {
-        in_the_way(request, space.conflict(request))
-    })
+    let details = || in_the_way(request, space.conflict(request));
+    answered(allocated, wants_details, details)
 }
 
 fn move_by(
@@ -43,9 +42,8 @@ fn move_by(
     wants_details: bool,
 ) -> Result<dvs_range, CallError> {
     let moved = space.move_constraint(Global, range, request);
-    answered(moved, wants_details, || {
-        in_the_way(request, space.move_conflict(range, request))
-    })
+    let details = || in_the_way(request, space.move_conflict(range, request));
+    answered(moved, wants_details, details)
 }
 
 /// Returns the part of the space that begins at `address`, or one address outside the space if there is
