@@ -47,11 +47,8 @@ use core::fmt;
 /// # Ok::<(), Error>(())
 /// ```
 #[derive(PartialEq, Eq)]
-#[cfg_attr(
-    feature = "serde",
-    derive(serde::Serialize, serde::Deserialize),
-    serde(transparent)
-)]
+#[cfg_attr(feature = "serde", derive(serde::Serialize, serde::Deserialize))]
+#[cfg_attr(feature = "serde", serde(transparent))]
 pub struct IdAllocator(pub(crate) proved::IdAllocator);
 
 impl IdAllocator {

@@ -33,11 +33,8 @@ use core::{fmt, ops};
 /// # Ok::<(), divsharun::Error>(())
 /// ```
 #[derive(Copy, Clone, PartialEq, Eq, PartialOrd, Ord, Hash)]
-#[cfg_attr(
-    feature = "serde",
-    derive(serde::Serialize, serde::Deserialize),
-    serde(transparent)
-)]
+#[cfg_attr(feature = "serde", derive(serde::Serialize, serde::Deserialize))]
+#[cfg_attr(feature = "serde", serde(transparent))]
 pub struct RangeInclusive(pub(crate) proved::RangeInclusive);
 
 // No range is empty, so `is_empty` would always be false.

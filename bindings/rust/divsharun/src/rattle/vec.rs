@@ -74,12 +74,6 @@ impl<T> Vec<T> {
     }
 }
 
-impl<T> From<alloc::vec::Vec<T>> for Vec<T> {
-    fn from(list: alloc::vec::Vec<T>) -> Self {
-        Vec(list)
-    }
-}
-
 impl<T> From<Vec<T>> for alloc::vec::Vec<T> {
     fn from(list: Vec<T>) -> Self {
         list.0
