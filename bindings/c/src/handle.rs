@@ -50,7 +50,7 @@ impl<T> Handle<T> {
     pub(crate) unsafe fn destroy(pointer: *mut Handle<T>) -> Result<(), CallError> {
         // SAFETY: it is null or points to a handle that `new` made.
         if let Some(handle) = unsafe { pointer.as_ref() } {
-            handle.check_not_visited()?;
+            handle.get_mut()?;
             // SAFETY: `new` made it as a box of one handle, and it is dropped only here.
             drop(unsafe { Box::from_raw(pointer) });
         }
@@ -67,15 +67,10 @@ impl<T> Handle<T> {
     /// Returns the object for writing, or `Busy` if it is being visited.
     #[allow(clippy::mut_from_ref)]
     pub(crate) fn get_mut(&self) -> Result<&mut T, CallError> {
-        self.check_not_visited()?;
-        // SAFETY: no visit reads the object, and the header forbids other calls on it at the same
-        // time.
-        Ok(unsafe { &mut *self.object.get() })
-    }
-
-    fn check_not_visited(&self) -> Result<(), CallError> {
         match self.visits.load(Ordering::Relaxed) {
-            0 => Ok(()),
+            // SAFETY: no visit reads the object, and the header forbids other calls on it at the same
+            // time.
+            0 => Ok(unsafe { &mut *self.object.get() }),
             _ => Err(DVS_BUSY.into()),
         }
     }

@@ -41,18 +41,6 @@ write_fields! {
 mod fields;
 use fields::{List, WithBlocks};
 
-impl Serialize for crate::AddressAllocator {
-    fn serialize<S: Serializer>(&self, to: S) -> Result<S::Ok, S::Error> {
-        self.try_saved().map_err(S::Error::custom)?.serialize(to)
-    }
-}
-
-impl Serialize for crate::DeviceManager {
-    fn serialize<S: Serializer>(&self, to: S) -> Result<S::Ok, S::Error> {
-        self.try_saved().map_err(S::Error::custom)?.serialize(to)
-    }
-}
-
 /// A view of an object, which is serialized as the object, and without allocating memory.
 ///
 /// [`AddressAllocator::try_saved`](crate::AddressAllocator::try_saved) and
@@ -68,17 +56,24 @@ impl<T: fmt::Debug> fmt::Debug for Saved<'_, T> {
     }
 }
 
-impl Serialize for Saved<'_, crate::AddressAllocator> {
-    fn serialize<S: Serializer>(&self, to: S) -> Result<S::Ok, S::Error> {
-        WithBlocks(&self.object.0, &self.blocks).serialize(to)
-    }
+/// Implements the writing of objects and of their views.
+macro_rules! write_objects {
+    ($($object:ty),+) => {$(
+        impl Serialize for $object {
+            fn serialize<S: Serializer>(&self, to: S) -> Result<S::Ok, S::Error> {
+                self.try_saved().map_err(S::Error::custom)?.serialize(to)
+            }
+        }
+
+        impl Serialize for Saved<'_, $object> {
+            fn serialize<S: Serializer>(&self, to: S) -> Result<S::Ok, S::Error> {
+                WithBlocks(&self.object.0, &self.blocks).serialize(to)
+            }
+        }
+    )+};
 }
 
-impl Serialize for Saved<'_, crate::DeviceManager> {
-    fn serialize<S: Serializer>(&self, to: S) -> Result<S::Ok, S::Error> {
-        WithBlocks(&self.object.0, &self.blocks).serialize(to)
-    }
-}
+write_objects! { crate::AddressAllocator, crate::DeviceManager }
 
 impl<'a, T> Saved<'a, T> {
     /// Returns the view of an object with this space.
