@@ -39,10 +39,8 @@ type Named<'a> = (RangeInclusive, usize, &'a str);
 impl<'a> Layout<'a> {
     /// Creates the layout of an allocator, without names.
     pub(crate) fn of(allocator: &'a AddressAllocator) -> Self {
-        Layout {
-            allocator,
-            names: Vec::new(),
-        }
+        let names = Vec::new();
+        Layout { allocator, names }
     }
 
     /// Adds names for allocated ranges. A name for any other range is not shown. The layout borrows the

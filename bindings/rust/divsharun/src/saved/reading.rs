@@ -244,10 +244,8 @@ fn slots<'de, D: Deserializer<'de>>(from: D) -> Result<ReadDevices, D::Error> {
 impl<'de> Deserialize<'de> for crate::DeviceManager {
     fn deserialize<D: Deserializer<'de>>(from: D) -> Result<Self, D::Error> {
         let saved = Devices::deserialize(from)?;
-        let (version, ids) = (saved.version, saved.id_allocator);
-        let space = saved
-            .mmio_allocator
-            .allocator(AddressAllocator::from_nodes)?;
+        let (version, ids, space) = (saved.version, saved.id_allocator, saved.mmio_allocator);
+        let space = space.allocator(AddressAllocator::from_nodes)?;
         let made = DeviceManager::from_devices(Global, version, ids, space, &saved.slots);
         made.map(crate::DeviceManager).map_err(invalid)
     }
