@@ -19,7 +19,7 @@ const DVS_EXACT: u32 = 2;
 pub struct dvs_request<'a> {
     size: u64,
     alignment: u64,
-    pub(crate) start: u64,
+    start: u64,
     policy: u32,
     window: Option<&'a dvs_range>,
 }
