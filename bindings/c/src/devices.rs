@@ -74,67 +74,67 @@ object_calls! {
 calls! {
     takes dvs_device_manager_new(first_id: u32, last_id: u32, base: u64, size: u64)
         -> made: *mut dvs_device_manager [refusal] {
-        Ok(Handle::new(DeviceManager::new(Global, first_id, last_id, base, size)?)?)
+        Handle::new(DeviceManager::new(Global, first_id, last_id, base, size)?)?
     }
     changes dvs_device_reserve_first(manager: In<dvs_device_manager>, size: u64, alignment: u64)
         -> device: dvs_device [refusal] {
-        reserve(manager, size, alignment, AllocPolicy::FirstMatch, refusal.is_some())
+        reserve(manager, size, alignment, AllocPolicy::FirstMatch, refusal.is_some())?
     }
     changes dvs_device_reserve_last(manager: In<dvs_device_manager>, size: u64, alignment: u64)
         -> device: dvs_device [refusal] {
-        reserve(manager, size, alignment, AllocPolicy::LastMatch, refusal.is_some())
+        reserve(manager, size, alignment, AllocPolicy::LastMatch, refusal.is_some())?
     }
     changes dvs_device_reserve_exact(
         manager: In<dvs_device_manager>, size: u64, alignment: u64, start: u64
     ) -> device: dvs_device [refusal] {
-        reserve(manager, size, alignment, AllocPolicy::ExactMatch(start), refusal.is_some())
+        reserve(manager, size, alignment, AllocPolicy::ExactMatch(start), refusal.is_some())?
     }
     // An id without a device has the error of `dvs_device_release`.
     reads dvs_device_slot(manager: In<dvs_device_manager>, id: u32) -> range: dvs_range [refusal] {
-        Ok(manager.slot(id).ok_or(Error::NeverAllocated(id))?.into())
+        manager.slot(id).ok_or(Error::NeverAllocated(id))?.into()
     }
     reads dvs_device_at(manager: In<dvs_device_manager>, address: u64) -> device: dvs_device {
-        found(manager.device_at(address))
+        found(manager.device_at(address))?
     }
     reads dvs_device_manager_space(manager: In<dvs_device_manager>) -> ends: dvs_range {
-        Ok(space_of(manager.addresses()))
+        space_of(manager.addresses())
     }
-    reads dvs_device_count(manager: In<dvs_device_manager>) -> count: u64 {
-        Ok(manager.device_count())
-    }
+    reads dvs_device_count(manager: In<dvs_device_manager>) -> count: u64 { manager.device_count() }
     changes dvs_device_release(manager: In<dvs_device_manager>, id: u32) [refusal] {
-        Ok(manager.release(id)?)
+        manager.release(id)?
     }
     changes dvs_device_reserve(manager: In<dvs_device_manager>; request)
         -> device: dvs_device [refusal] {
-        reserve_request(manager, IdRequest::Lowest, request, refusal.is_some())
+        reserve_request(manager, IdRequest::Lowest, request, refusal.is_some())?
     }
     changes dvs_device_reserve_with_id(
         manager: In<dvs_device_manager>, first_id: u32, last_id: u32; request
     ) -> device: dvs_device [refusal] {
-        reserve_request(manager, IdRequest::LowestIn(first_id, last_id), request, refusal.is_some())
+        let id = IdRequest::LowestIn(first_id, last_id);
+        reserve_request(manager, id, request, refusal.is_some())?
     }
     changes dvs_device_move(manager: In<dvs_device_manager>, id: u32; request)
         -> range: dvs_range [refusal] {
         let moved = manager.move_constraint(Global, id, request);
-        answered(moved, refusal.is_some(), || {
+        let details = || {
             let range = manager.slot(id)?;
             in_the_way(request, manager.addresses().move_conflict(&range, request))
-        })
+        };
+        answered(moved, refusal.is_some(), details)?
     }
     reads dvs_device_conflict(manager: In<dvs_device_manager>; request) -> found: dvs_refusal {
-        Ok(in_the_way(request, manager.addresses().conflict(request)).unwrap_or_default())
+        in_the_way(request, manager.addresses().conflict(request)).unwrap_or_default()
     }
     reads dvs_device_manager_ids(manager: In<dvs_device_manager>, first: Out<u32>) -> last: u32 {
-        write_range(manager.ids(), first)
+        write_range(manager.ids(), first)?
     }
     reads dvs_device_manager_copy_addresses(manager: In<dvs_device_manager>)
         -> copied: *mut dvs_address_allocator {
-        Ok(Handle::new(manager.addresses().try_clone(Global)?)?)
+        Handle::new(manager.addresses().try_clone(Global)?)?
     }
     reads dvs_device_manager_copy_ids(manager: In<dvs_device_manager>)
         -> copied: *mut dvs_id_allocator {
-        Ok(Handle::new(manager.ids().try_clone(Global)?)?)
+        Handle::new(manager.ids().try_clone(Global)?)?
     }
 }
 

@@ -97,12 +97,10 @@ pub(crate) fn visit<'a, T, I: Iterator>(
 
 /// Writes the result of a call to `out`, if the call has a result.
 #[inline(always)]
-pub(crate) fn write<A>(answer: Result<A, CallError>, out: Out<A>) -> Result<(), CallError> {
-    let answer = answer?;
+pub(crate) fn write<A>(answer: A, out: Out<A>) {
     if let Some(out) = out {
         out.write(answer);
     }
-    Ok(())
 }
 
 /// Returns the item that a look-up has found.

@@ -39,14 +39,14 @@ object_calls! {
 
 calls! {
     takes dvs_id_allocator_new(first: u32, last: u32) -> made: *mut dvs_id_allocator [refusal] {
-        Ok(Handle::new(IdAllocator::new(Global, first, last)?)?)
+        Handle::new(IdAllocator::new(Global, first, last)?)?
     }
     takes dvs_id_allocator_with_held(first: u32, last: u32, held: *const u32, count: usize)
         -> made: *mut dvs_id_allocator [refusal] {
         // SAFETY: the array is null or has `count` readable ids.
         let held = unsafe { array(held, count) }?;
         let made = IdAllocator::with_held(Global, first, last, held);
-        Ok(Handle::new(made.map_err(|error| refused_id(error, first_not_above(held)))?)?)
+        Handle::new(made.map_err(|error| refused_id(error, first_not_above(held)))?)?
     }
     takes dvs_ids_allocate(allocator: In<dvs_id_allocator>, ids: *mut u32, count: usize) {
         let allocator = non_null(allocator)?;
@@ -58,28 +58,27 @@ calls! {
             // SAFETY: the array has a writable id for each index.
             unsafe { ids.add(index).write(*id) };
         }
-        Ok(())
     }
-    changes dvs_id_allocate(ids: In<dvs_id_allocator>) -> id: u32 { Ok(ids.allocate_id()?) }
+    changes dvs_id_allocate(ids: In<dvs_id_allocator>) -> id: u32 { ids.allocate_id()? }
     changes dvs_id_allocate_in(ids: In<dvs_id_allocator>, first: u32, last: u32)
         -> id: u32 [refusal] {
-        Ok(ids.allocate_in(first, last)?)
+        ids.allocate_in(first, last)?
     }
     changes dvs_id_allocate_exact(ids: In<dvs_id_allocator>, id: u32) [refusal] {
-        ids.allocate_exact(id).map(drop).map_err(|error| refused_id(error, id))
+        ids.allocate_exact(id).map_err(|error| refused_id(error, id))?;
     }
     changes dvs_id_free(ids: In<dvs_id_allocator>, id: u32) [refusal] {
-        Ok(ids.free_id(id).map(drop)?)
+        ids.free_id(id)?;
     }
     reads dvs_id_allocator_range(ids: In<dvs_id_allocator>, first: Out<u32>) -> last: u32 {
-        write_range(ids, first)
+        write_range(ids, first)?
     }
-    reads dvs_id_peek(ids: In<dvs_id_allocator>) -> id: u32 { Ok(ids.peek_id()?) }
+    reads dvs_id_peek(ids: In<dvs_id_allocator>) -> id: u32 { ids.peek_id()? }
     reads dvs_id_is_allocated(ids: In<dvs_id_allocator>, id: u32) -> is_allocated: bool {
-        Ok(ids.is_allocated(id))
+        ids.is_allocated(id)
     }
-    reads dvs_id_count(ids: In<dvs_id_allocator>) -> count: u64 { Ok(ids.held_count()) }
-    reads dvs_id_free_count(ids: In<dvs_id_allocator>) -> count: u64 { Ok(ids.free_count()) }
+    reads dvs_id_count(ids: In<dvs_id_allocator>) -> count: u64 { ids.held_count() }
+    reads dvs_id_free_count(ids: In<dvs_id_allocator>) -> count: u64 { ids.free_count() }
 }
 
 visits! {

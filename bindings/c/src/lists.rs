@@ -100,13 +100,13 @@ calls! {
     ) -> made: *mut dvs_address_allocator, failed of count [refusal] {
         // SAFETY: the array is as the header requires.
         let held = unsafe { ranges_of(held, count) }?;
-        Ok(Handle::new(AddressAllocator::with_held(Global, base, size, &held)?)?)
+        Handle::new(AddressAllocator::with_held(Global, base, size, &held)?)?
     }
     takes dvs_address_allocator_with_free(ranges: *const dvs_range, count: usize)
         -> made: *mut dvs_address_allocator, failed of count [refusal] {
         // SAFETY: the array is as the header requires.
         let free = unsafe { ranges_of(ranges, count) }?;
-        Ok(Handle::new(AddressAllocator::with_free(Global, &free)?)?)
+        Handle::new(AddressAllocator::with_free(Global, &free)?)?
     }
     takes dvs_address_allocator_allocate_all(
         allocator: In<dvs_address_allocator>, requests: *const dvs_request, count: usize,
@@ -133,6 +133,5 @@ calls! {
             // SAFETY: the array has a writable range for each request.
             unsafe { ranges.add(index).write((*range).into()) };
         }
-        Ok(())
     }
 }

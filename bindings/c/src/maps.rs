@@ -35,35 +35,33 @@ object_calls! { dvs_range_map: dvs_range_map_destroy, dvs_range_map_copy, dvs_ra
 
 calls! {
     takes dvs_range_map_new(base: u64, size: u64) -> made: *mut dvs_range_map {
-        Ok(Handle::new(RangeMap::new(Global, base, size)?)?)
+        Handle::new(RangeMap::new(Global, base, size)?)?
     }
     changes dvs_range_map_allocate(map: In<dvs_range_map>, value: u64; request)
         -> range: dvs_range [refusal] {
         let allocated = map.allocate_constraint(Global, request, value);
         let details = || in_the_way(request, map.addresses().conflict(request));
-        answered(allocated, refusal.is_some(), details)
+        answered(allocated, refusal.is_some(), details)?
     }
     changes dvs_range_map_move(map: In<dvs_range_map>, range: dvs_range; request)
         -> moved: dvs_range [refusal] {
         let range = range.try_into()?;
         let moved = map.move_constraint(Global, &range, request);
         let details = || in_the_way(request, map.addresses().move_conflict(&range, request));
-        answered(moved, refusal.is_some(), details)
+        answered(moved, refusal.is_some(), details)?
     }
     changes dvs_range_map_free(map: In<dvs_range_map>, range: dvs_range) -> value: u64 [refusal] {
-        Ok(map.free(&range.try_into()?)?)
+        map.free(&range.try_into()?)?
     }
     changes dvs_range_map_set(map: In<dvs_range_map>, address: u64, value: u64) -> before: u64 {
-        found(map.set(address, value))
+        found(map.set(address, value))?
     }
     reads dvs_range_map_get(map: In<dvs_range_map>, address: u64) -> valued: dvs_valued_range {
-        found(map.get(address))
+        found(map.get(address))?
     }
-    reads dvs_range_map_count(map: In<dvs_range_map>) -> count: u64 {
-        Ok(map.addresses().held_count())
-    }
+    reads dvs_range_map_count(map: In<dvs_range_map>) -> count: u64 { map.addresses().held_count() }
     reads dvs_range_map_space(map: In<dvs_range_map>) -> ends: dvs_range {
-        Ok(space_of(map.addresses()))
+        space_of(map.addresses())
     }
 }
 

@@ -8,13 +8,13 @@ macro_rules! object_calls {
         $crate::objects::calls! {
             takes $destroy(object: *mut $handle) {
                 // SAFETY: the object is null or from a call that creates one, and is not used after `DVS_OK`.
-                unsafe { $crate::handle::Handle::destroy(object) }
+                unsafe { $crate::handle::Handle::destroy(object) }?
             }
             reads $copy(object: $crate::In<$handle>) -> copied: *mut $handle {
-                Ok($crate::handle::Handle::new(object.try_clone($crate::rattle::Global)?)?)
+                $crate::handle::Handle::new(object.try_clone($crate::rattle::Global)?)?
             }
             reads $equal(one: $crate::In<$handle>, other: $crate::In<$handle>) -> are_equal: bool {
-                Ok(one == $crate::handle::non_null(other)?.get())
+                one == $crate::handle::non_null(other)?.get()
             }
         }
     };
@@ -25,7 +25,7 @@ macro_rules! object_calls {
         $crate::objects::calls! {
             reads $save(object: $crate::In<$handle>, text: $crate::Out<*mut core::ffi::c_char>)
                 -> length: usize {
-                $crate::texts::save(text, || $saver(object))
+                $crate::texts::save(text, || $saver(object))?
             }
         }
 
@@ -94,12 +94,13 @@ macro_rules! calls {
             $($failed: $crate::Out<usize>,)?
             $($refusal: $crate::Out<$crate::dvs_refusal>,)?
         ) -> $crate::dvs_status {
-            let call = || {
+            let call = || -> Result<(), $crate::CallError> {
                 $(let $request = $crate::handle::non_null($request)?;)?
                 $(let $result = $crate::handle::non_null($result)?;)?
                 let $first = $crate::objects::argument!($does $first);
                 $(let $request = $request.constraint()?;)?
-                $crate::handle::write($answer, None$(.or(Some($result)))?)
+                $crate::handle::write($answer, None$(.or(Some($result)))?);
+                Ok(())
             };
             let answer = call();
             $($crate::lists::write_failed(&answer, $length, $failed);)?
@@ -119,7 +120,7 @@ macro_rules! visits {
                 visitor: Option<$visitor>, context: *mut core::ffi::c_void
             ) $([$refusal])? {
                 let visitor = visitor.map(|visitor| move |item| visitor(context, Into::into(item)));
-                $crate::handle::visit(object, |$object| Ok($items), visitor)
+                $crate::handle::visit(object, |$object| Ok($items), visitor)?
             }
         )+}
     };

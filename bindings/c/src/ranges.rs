@@ -91,69 +91,65 @@ object_calls! {
 
 calls! {
     takes dvs_address_allocator_new(base: u64, size: u64) -> made: *mut dvs_address_allocator {
-        Ok(Handle::new(AddressAllocator::new(Global, base, size)?)?)
+        Handle::new(AddressAllocator::new(Global, base, size)?)?
     }
     takes dvs_range_from_start_length(start: u64, length: u64) -> range: dvs_range {
-        Ok(RangeInclusive::from_start_len(start, length)?.into())
+        RangeInclusive::from_start_len(start, length)?.into()
     }
     takes dvs_range_offset_of(range: dvs_range, address: u64) -> offset: u64 {
-        found(RangeInclusive::try_from(range)?.offset_of(address))
+        found(RangeInclusive::try_from(range)?.offset_of(address))?
     }
     changes dvs_range_allocate_first(space: In<dvs_address_allocator>, size: u64, alignment: u64)
         -> range: dvs_range [refusal] {
         let request = Constraint::new(size, alignment, AllocPolicy::FirstMatch)?;
-        allocate(space, request, refusal.is_some())
+        allocate(space, request, refusal.is_some())?
     }
     changes dvs_range_allocate_last(space: In<dvs_address_allocator>, size: u64, alignment: u64)
         -> range: dvs_range [refusal] {
         let request = Constraint::new(size, alignment, AllocPolicy::LastMatch)?;
-        allocate(space, request, refusal.is_some())
+        allocate(space, request, refusal.is_some())?
     }
     changes dvs_range_allocate_exact(
         space: In<dvs_address_allocator>, size: u64, alignment: u64, start: u64
     ) -> range: dvs_range [refusal] {
         let request = Constraint::new(size, alignment, AllocPolicy::ExactMatch(start))?;
-        allocate(space, request, refusal.is_some())
+        allocate(space, request, refusal.is_some())?
     }
     changes dvs_range_move(space: In<dvs_address_allocator>, range: dvs_range, start: u64)
         -> moved: dvs_range [refusal] {
         let range = RangeInclusive::try_from(range)?;
         let request = Constraint::new(range.len(), 1, AllocPolicy::ExactMatch(start))?;
-        move_by(space, &range, request, refusal.is_some())
+        move_by(space, &range, request, refusal.is_some())?
     }
     reads dvs_range_is_allocated(space: In<dvs_address_allocator>, range: dvs_range)
         -> is_allocated: bool [refusal] {
-        Ok(space.holds(&range.try_into()?))
+        space.holds(&range.try_into()?)
     }
     reads dvs_range_at(space: In<dvs_address_allocator>, address: u64) -> range: dvs_range {
-        found(space.held_at(address))
+        found(space.held_at(address))?
     }
     reads dvs_gap_at(space: In<dvs_address_allocator>, address: u64) -> gap: dvs_range {
-        found(space.gap_at(address))
+        found(space.gap_at(address))?
     }
     reads dvs_address_allocator_space(space: In<dvs_address_allocator>) -> ends: dvs_range {
-        Ok(space_of(space))
+        space_of(space)
     }
-    reads dvs_range_count(space: In<dvs_address_allocator>) -> count: u64 { Ok(space.held_count()) }
-    reads dvs_gap_count(space: In<dvs_address_allocator>) -> count: u64 { Ok(space.gap_count()) }
-    reads dvs_longest_gap(space: In<dvs_address_allocator>) -> length: u64 {
-        Ok(space.longest_gap())
-    }
-    reads dvs_free_length(space: In<dvs_address_allocator>) -> length: u64 {
-        Ok(space.free_len())
-    }
+    reads dvs_range_count(space: In<dvs_address_allocator>) -> count: u64 { space.held_count() }
+    reads dvs_gap_count(space: In<dvs_address_allocator>) -> count: u64 { space.gap_count() }
+    reads dvs_longest_gap(space: In<dvs_address_allocator>) -> length: u64 { space.longest_gap() }
+    reads dvs_free_length(space: In<dvs_address_allocator>) -> length: u64 { space.free_len() }
     changes dvs_range_free(space: In<dvs_address_allocator>, range: dvs_range) [refusal] {
-        Ok(space.free(&range.try_into()?)?)
+        space.free(&range.try_into()?)?
     }
     changes dvs_range_allocate(space: In<dvs_address_allocator>; request)
         -> range: dvs_range [refusal] {
-        allocate(space, request, refusal.is_some())
+        allocate(space, request, refusal.is_some())?
     }
     changes dvs_range_move_request(space: In<dvs_address_allocator>, range: dvs_range; request)
         -> moved: dvs_range [refusal] {
-        move_by(space, &range.try_into()?, request, refusal.is_some())
+        move_by(space, &range.try_into()?, request, refusal.is_some())?
     }
     reads dvs_range_conflict(space: In<dvs_address_allocator>; request) -> found: dvs_refusal {
-        Ok(in_the_way(request, space.conflict(request)).unwrap_or_default())
+        in_the_way(request, space.conflict(request)).unwrap_or_default()
     }
 }
