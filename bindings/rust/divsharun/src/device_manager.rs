@@ -504,8 +504,7 @@ impl DeviceManager {
     /// ```
     #[must_use]
     pub fn addresses(&self) -> AddressAllocator {
-        let copy = self.try_addresses();
-        copy.unwrap_or_else(|_| out_of_memory())
+        self.try_addresses().unwrap_or_else(|_| out_of_memory())
     }
 
     /// Copies like [`addresses`](Self::addresses), but returns an error if memory runs out.
