@@ -33,23 +33,6 @@
 
 namespace dvs {
 
-/* The code of a status. It can be compared with a status, as in `failure == DVS_OVERFLOW`. */
-class DVS_MUST_CHECK error : public std::error_code {
-  public:
-    error() noexcept = default;
-    error(int status, const std::error_category &owner) noexcept : std::error_code(status, owner) {}
-
-    /* The name of the status, such as "DVS_OVERFLOW". */
-    const char *name() const noexcept { return dvs_status_name(static_cast<dvs_status>(value())); }
-
-    friend bool operator==(const error &code, dvs_status status) noexcept {
-        return code.value() == static_cast<int>(status);
-    }
-    friend bool operator!=(const error &code, dvs_status status) noexcept {
-        return !(code == status);
-    }
-};
-
 class status_category final : public std::error_category {
   public:
     const char *name() const noexcept override { return "divsharun"; }
@@ -68,8 +51,29 @@ inline const std::error_category &category() noexcept {
     return only;
 }
 
+/*
+ * The code of a status, which converts to it. It can be compared with a status, as in
+ * `failure == DVS_OVERFLOW`.
+ */
+class DVS_MUST_CHECK error : public std::error_code {
+  public:
+    error() noexcept = default;
+    error(int status, const std::error_category &owner) noexcept : std::error_code(status, owner) {}
+    error(dvs_status status) noexcept : error(static_cast<int>(status), dvs::category()) {}
+
+    /* The name of the status, such as "DVS_OVERFLOW". */
+    const char *name() const noexcept { return dvs_status_name(static_cast<dvs_status>(value())); }
+
+    friend bool operator==(const error &code, dvs_status status) noexcept {
+        return code.value() == static_cast<int>(status);
+    }
+    friend bool operator!=(const error &code, dvs_status status) noexcept {
+        return !(code == status);
+    }
+};
+
 inline error code(dvs_status status) noexcept {
-    return {static_cast<int>(status), category()};
+    return status;
 }
 
 /* The version of the library that runs. */
@@ -97,10 +101,10 @@ inline const char *text_of(cause found) noexcept {
 }
 
 inline error range_from(uint64_t start, uint64_t length, dvs_range &range) noexcept {
-    return code(dvs_range_from_start_length(start, length, &range));
+    return dvs_range_from_start_length(start, length, &range);
 }
 inline error offset_of(dvs_range range, uint64_t address, uint64_t &offset) noexcept {
-    return code(dvs_range_offset_of(range, address, &offset));
+    return dvs_range_offset_of(range, address, &offset);
 }
 
 /* A text to read: a literal, a std::string, a std::string_view, or a pointer and a length. */
@@ -126,9 +130,13 @@ template <typename T, dvs_status (*Destroy)(T *), dvs_status (*Copy)(const T *, 
           dvs_status (*Equal)(const T *, const T *, bool *),
           dvs_status (*Save)(const T *, char **, std::size_t *),
           dvs_status (*Read)(const char *, std::size_t, const dvs_text_limits *, T **,
-                             dvs_text_fault *)>
+                             dvs_text_fault *),
+          typename Item, dvs_status (*Visit)(const T *, int (*)(void *, Item), void *)>
 class owner {
     T *object = nullptr;
+
+  protected:
+    using handle = T;
 
   public:
     owner() noexcept = default;
@@ -147,7 +155,7 @@ class owner {
             status = Destroy(object);
         if (status == DVS_OK)
             object = made;
-        return code(status);
+        return status;
     }
     /* Returns the object, and leaves the owner empty. The caller must destroy the object. */
     T *detach() noexcept {
@@ -170,7 +178,11 @@ class owner {
         std::unique_ptr<char, void (*)(char *)> owned(saved, dvs_text_destroy);
         if (status == DVS_OK)
             text.assign(saved, length);
-        return code(status);
+        return status;
+    }
+    /* Calls `action` with each item, in ascending order, until it returns false. */
+    template <typename Action> error for_each(Action action) const {
+        return visit_by(Visit, std::move(action));
     }
     /* An empty owner equals only empty ones. */
     friend bool operator==(const owner &one, const owner &other) noexcept {
@@ -186,7 +198,7 @@ class owner {
     /* Replaces the object by a new one, if the call that creates it succeeds. */
     template <typename Call> error create(Call call) noexcept {
         owner made;
-        error failed = code(call(&made.object));
+        error failed = call(&made.object);
         if (!failed)
             failed = adopt(made.object);
         if (!failed)
@@ -201,8 +213,8 @@ class owner {
     }
 
     /* Calls `action` with each item until it returns false. An exception ends the visit. */
-    template <typename Item, typename Visit, typename Action, typename... Address>
-    error visit_by(Visit call, Action action, Address... address) const {
+    template <typename Call, typename Action, typename... Address>
+    error visit_by(Call call, Action action, Address... address) const {
         struct visit {
             Action action;
             std::exception_ptr thrown;
@@ -223,15 +235,13 @@ class owner {
         dvs_status status = call(object, address..., visit::one, &all);
         if (all.thrown)
             std::rethrow_exception(all.thrown);
-        return code(status);
+        return status;
     }
 
     /* Replaces `items` by the items of a visit. An error leaves them unchanged. */
-    template <typename Item, typename Visit>
-    error list_by(Visit call, std::vector<Item> &items) const {
+    template <typename Call> error list_by(Call call, std::vector<Item> &items) const {
         std::vector<Item> found;
-        error failed =
-            visit_by<Item>(call, [&found](Item item) { return found.push_back(item), true; });
+        error failed = visit_by(call, [&](Item item) { return found.push_back(item), true; });
         if (!failed)
             items = std::move(found);
         return failed;
@@ -253,8 +263,13 @@ class request {
     friend class address_allocator;
     friend class device_manager;
     friend class range_map;
-    /* Returns the request for one call of C. It points to the window of this object. */
-    dvs_request for_call() const noexcept { return {size, alignment, start, policy, &window}; }
+    /* A request of C, as an argument of one call. */
+    struct argument {
+        dvs_request asked;
+        operator const dvs_request *() const noexcept { return &asked; }
+    };
+    /* Returns the request of C. It points to the window of this object. */
+    argument for_call() const noexcept { return {{size, alignment, start, policy, &window}}; }
 
   public:
     /* Copies a request of C, and its window. */
@@ -278,9 +293,10 @@ class request {
     }
 };
 
-using space_owner = owner<dvs_address_allocator, dvs_address_allocator_destroy,
-                          dvs_address_allocator_copy, dvs_address_allocator_equal,
-                          dvs_address_allocator_save, dvs_address_allocator_read_within>;
+using space_owner =
+    owner<dvs_address_allocator, dvs_address_allocator_destroy, dvs_address_allocator_copy,
+          dvs_address_allocator_equal, dvs_address_allocator_save,
+          dvs_address_allocator_read_within, dvs_range, dvs_range_visit>;
 
 /*
  * The allocated ranges or the gaps from an address upwards, for a range-based for:
@@ -316,7 +332,7 @@ class each {
     error start(const space_owner &owner, uint64_t address) noexcept {
         each first;
         first.visited = &owner;
-        error failed = code(Visit(owner.get(), address, keep, &first.item));
+        error failed = Visit(owner.get(), address, keep, &first.item);
         if (!failed)
             *this = first;
         return failed;
@@ -346,27 +362,25 @@ using each_range = each<dvs_range_visit_from>;
 using each_gap = each<dvs_gap_visit_from>;
 
 class address_allocator : public space_owner {
-    using object = dvs_address_allocator;
-
   public:
     error make(uint64_t base, uint64_t size) noexcept {
-        return create([=](object **out) { return dvs_address_allocator_new(base, size, out); });
+        return create([=](handle **out) { return dvs_address_allocator_new(base, size, out); });
     }
     /* Replaces the object by a copy of the allocator of a manager, for the calls that read one. */
     error make_copy_of(const dvs_device_manager *manager) noexcept {
         return create(
-            [=](object **out) { return dvs_device_manager_copy_addresses(manager, out); });
+            [=](handle **out) { return dvs_device_manager_copy_addresses(manager, out); });
     }
     error make_with_held(uint64_t base, uint64_t size, const std::vector<dvs_range> &held,
                          std::size_t *failed = nullptr, dvs_refusal *refusal = nullptr) noexcept {
-        return create([&](object **out) {
+        return create([&](handle **out) {
             return dvs_address_allocator_with_held(base, size, held.data(), held.size(), out,
                                                    failed, refusal);
         });
     }
     error make_with_free(const std::vector<dvs_range> &ranges, std::size_t *failed = nullptr,
                          dvs_refusal *refusal = nullptr) noexcept {
-        return create([&](object **out) {
+        return create([&](handle **out) {
             return dvs_address_allocator_with_free(ranges.data(), ranges.size(), out, failed,
                                                    refusal);
         });
@@ -377,72 +391,63 @@ class address_allocator : public space_owner {
     }
     error allocate_first(uint64_t size, uint64_t alignment, dvs_range &range,
                          dvs_refusal *refusal = nullptr) noexcept {
-        return code(dvs_range_allocate_first(get(), size, alignment, &range, refusal));
+        return dvs_range_allocate_first(get(), size, alignment, &range, refusal);
     }
     error allocate_last(uint64_t size, uint64_t alignment, dvs_range &range,
                         dvs_refusal *refusal = nullptr) noexcept {
-        return code(dvs_range_allocate_last(get(), size, alignment, &range, refusal));
+        return dvs_range_allocate_last(get(), size, alignment, &range, refusal);
     }
     error allocate_exact(uint64_t size, uint64_t alignment, uint64_t start, dvs_range &range,
                          dvs_refusal *refusal = nullptr) noexcept {
-        return code(dvs_range_allocate_exact(get(), size, alignment, start, &range, refusal));
+        return dvs_range_allocate_exact(get(), size, alignment, start, &range, refusal);
     }
     error allocate(const request &asked, dvs_range &range,
                    dvs_refusal *refusal = nullptr) noexcept {
-        const dvs_request one = asked.for_call();
-        return code(dvs_range_allocate(get(), &one, &range, refusal));
+        return dvs_range_allocate(get(), asked.for_call(), &range, refusal);
     }
     error allocate_all(const std::vector<request> &requests, std::vector<dvs_range> &ranges,
                        std::size_t *failed = nullptr, dvs_refusal *refusal = nullptr) {
         std::vector<dvs_request> all;
         std::vector<dvs_range> allocated(requests.size());
         for (const request &one : requests)
-            all.push_back(one.for_call());
-        error failure = code(dvs_address_allocator_allocate_all(get(), all.data(), all.size(),
-                                                                allocated.data(), failed, refusal));
+            all.push_back(one.for_call().asked);
+        error failure = dvs_address_allocator_allocate_all(get(), all.data(), all.size(),
+                                                           allocated.data(), failed, refusal);
         if (!failure)
             ranges = std::move(allocated);
         return failure;
     }
     error free(dvs_range range, dvs_refusal *refusal = nullptr) noexcept {
-        return code(dvs_range_free(get(), range, refusal));
+        return dvs_range_free(get(), range, refusal);
     }
     error move_range(dvs_range range, uint64_t start, dvs_range &moved,
                      dvs_refusal *refusal = nullptr) noexcept {
-        return code(dvs_range_move(get(), range, start, &moved, refusal));
+        return dvs_range_move(get(), range, start, &moved, refusal);
     }
     error move_range(dvs_range range, const request &asked, dvs_range &moved,
                      dvs_refusal *refusal = nullptr) noexcept {
-        const dvs_request one = asked.for_call();
-        return code(dvs_range_move_request(get(), range, &one, &moved, refusal));
+        return dvs_range_move_request(get(), range, asked.for_call(), &moved, refusal);
     }
     error conflict(const request &asked, dvs_refusal &found) const noexcept {
-        const dvs_request one = asked.for_call();
-        return code(dvs_range_conflict(get(), &one, &found));
+        return dvs_range_conflict(get(), asked.for_call(), &found);
     }
     error space(dvs_range &space) const noexcept {
-        return code(dvs_address_allocator_space(get(), &space));
+        return dvs_address_allocator_space(get(), &space);
     }
     error is_allocated(dvs_range range, bool &is_allocated,
                        dvs_refusal *refusal = nullptr) const noexcept {
-        return code(dvs_range_is_allocated(get(), range, &is_allocated, refusal));
+        return dvs_range_is_allocated(get(), range, &is_allocated, refusal);
     }
     error at(uint64_t address, dvs_range &range) const noexcept {
-        return code(dvs_range_at(get(), address, &range));
+        return dvs_range_at(get(), address, &range);
     }
     error gap_at(uint64_t address, dvs_range &gap) const noexcept {
-        return code(dvs_gap_at(get(), address, &gap));
+        return dvs_gap_at(get(), address, &gap);
     }
-    error longest_gap(uint64_t &length) const noexcept {
-        return code(dvs_longest_gap(get(), &length));
-    }
-    error range_count(uint64_t &count) const noexcept {
-        return code(dvs_range_count(get(), &count));
-    }
-    error gap_count(uint64_t &count) const noexcept { return code(dvs_gap_count(get(), &count)); }
-    error free_length(uint64_t &length) const noexcept {
-        return code(dvs_free_length(get(), &length));
-    }
+    error longest_gap(uint64_t &length) const noexcept { return dvs_longest_gap(get(), &length); }
+    error range_count(uint64_t &count) const noexcept { return dvs_range_count(get(), &count); }
+    error gap_count(uint64_t &count) const noexcept { return dvs_gap_count(get(), &count); }
+    error free_length(uint64_t &length) const noexcept { return dvs_free_length(get(), &length); }
     error ranges(std::vector<dvs_range> &ranges) const { return list_by(dvs_range_visit, ranges); }
     error gaps(std::vector<dvs_range> &gaps) const { return list_by(dvs_gap_visit, gaps); }
     error ranges_in(dvs_range within, std::vector<dvs_range> &ranges,
@@ -459,197 +464,166 @@ class address_allocator : public space_owner {
     error gaps_from(uint64_t address, each_gap &gaps) const noexcept {
         return gaps.start(*this, address);
     }
-    template <typename Action> error for_each(Action action) const {
-        return visit_by<dvs_range>(dvs_range_visit, std::move(action));
-    }
     template <typename Action> error for_each_gap(Action action) const {
-        return visit_by<dvs_range>(dvs_gap_visit, std::move(action));
+        return visit_by(dvs_gap_visit, std::move(action));
     }
     /* The ranges or the gaps from an address upwards, or back from it downwards. */
     template <typename Action> error for_each_from(uint64_t address, Action action) const {
-        return visit_by<dvs_range>(dvs_range_visit_from, std::move(action), address);
+        return visit_by(dvs_range_visit_from, std::move(action), address);
     }
     template <typename Action> error for_each_back(uint64_t address, Action action) const {
-        return visit_by<dvs_range>(dvs_range_visit_back, std::move(action), address);
+        return visit_by(dvs_range_visit_back, std::move(action), address);
     }
     template <typename Action> error for_each_gap_from(uint64_t address, Action action) const {
-        return visit_by<dvs_range>(dvs_gap_visit_from, std::move(action), address);
+        return visit_by(dvs_gap_visit_from, std::move(action), address);
     }
     template <typename Action> error for_each_gap_back(uint64_t address, Action action) const {
-        return visit_by<dvs_range>(dvs_gap_visit_back, std::move(action), address);
+        return visit_by(dvs_gap_visit_back, std::move(action), address);
     }
 
   private:
-    template <typename Visit>
-    error list_in(Visit call, dvs_range within, std::vector<dvs_range> &ranges,
+    template <typename Call>
+    error list_in(Call call, dvs_range within, std::vector<dvs_range> &ranges,
                   dvs_refusal *refusal) const {
-        return list_by([=](const object *from, dvs_range_visitor *visitor,
+        return list_by([=](const handle *from, dvs_range_visitor *visitor,
                            void *context) { return call(from, within, visitor, context, refusal); },
                        ranges);
     }
 };
 
-class id_allocator
-    : public owner<dvs_id_allocator, dvs_id_allocator_destroy, dvs_id_allocator_copy,
-                   dvs_id_allocator_equal, dvs_id_allocator_save, dvs_id_allocator_read_within> {
-    using object = dvs_id_allocator;
-
+class id_allocator : public owner<dvs_id_allocator, dvs_id_allocator_destroy, dvs_id_allocator_copy,
+                                  dvs_id_allocator_equal, dvs_id_allocator_save,
+                                  dvs_id_allocator_read_within, uint32_t, dvs_id_visit> {
   public:
     error make(uint32_t first, uint32_t last, dvs_refusal *refusal = nullptr) noexcept {
         return create(
-            [=](object **out) { return dvs_id_allocator_new(first, last, out, refusal); });
+            [=](handle **out) { return dvs_id_allocator_new(first, last, out, refusal); });
     }
     error make_copy_of(const dvs_device_manager *manager) noexcept {
-        return create([=](object **out) { return dvs_device_manager_copy_ids(manager, out); });
+        return create([=](handle **out) { return dvs_device_manager_copy_ids(manager, out); });
     }
     error make_with_held(uint32_t first, uint32_t last, const std::vector<uint32_t> &held,
                          dvs_refusal *refusal = nullptr) noexcept {
-        return create([&](object **out) {
+        return create([&](handle **out) {
             return dvs_id_allocator_with_held(first, last, held.data(), held.size(), out, refusal);
         });
     }
     error range(uint32_t &first, uint32_t &last) const noexcept {
-        return code(dvs_id_allocator_range(get(), &first, &last));
+        return dvs_id_allocator_range(get(), &first, &last);
     }
-    error peek(uint32_t &id) const noexcept { return code(dvs_id_peek(get(), &id)); }
-    error allocate(uint32_t &id) noexcept { return code(dvs_id_allocate(get(), &id)); }
+    error peek(uint32_t &id) const noexcept { return dvs_id_peek(get(), &id); }
+    error allocate(uint32_t &id) noexcept { return dvs_id_allocate(get(), &id); }
     error allocate_exact(uint32_t id, dvs_refusal *refusal = nullptr) noexcept {
-        return code(dvs_id_allocate_exact(get(), id, refusal));
+        return dvs_id_allocate_exact(get(), id, refusal);
     }
     error allocate_in(uint32_t first, uint32_t last, uint32_t &id,
                       dvs_refusal *refusal = nullptr) noexcept {
-        return code(dvs_id_allocate_in(get(), first, last, &id, refusal));
+        return dvs_id_allocate_in(get(), first, last, &id, refusal);
     }
     /* Allocates an id for each member of `ids`, or none. */
     error allocate_all(std::vector<uint32_t> &ids) noexcept {
-        return code(dvs_ids_allocate(get(), ids.data(), ids.size()));
+        return dvs_ids_allocate(get(), ids.data(), ids.size());
     }
     error free(uint32_t id, dvs_refusal *refusal = nullptr) noexcept {
-        return code(dvs_id_free(get(), id, refusal));
+        return dvs_id_free(get(), id, refusal);
     }
     error is_allocated(uint32_t id, bool &is_allocated) const noexcept {
-        return code(dvs_id_is_allocated(get(), id, &is_allocated));
+        return dvs_id_is_allocated(get(), id, &is_allocated);
     }
-    error id_count(uint64_t &count) const noexcept { return code(dvs_id_count(get(), &count)); }
-    error free_count(uint64_t &count) const noexcept {
-        return code(dvs_id_free_count(get(), &count));
-    }
+    error id_count(uint64_t &count) const noexcept { return dvs_id_count(get(), &count); }
+    error free_count(uint64_t &count) const noexcept { return dvs_id_free_count(get(), &count); }
     error ids(std::vector<uint32_t> &ids) const { return list_by(dvs_id_visit, ids); }
-    template <typename Action> error for_each(Action action) const {
-        return visit_by<uint32_t>(dvs_id_visit, std::move(action));
-    }
 };
 
-class device_manager : public owner<dvs_device_manager, dvs_device_manager_destroy,
-                                    dvs_device_manager_copy, dvs_device_manager_equal,
-                                    dvs_device_manager_save, dvs_device_manager_read_within> {
-    using object = dvs_device_manager;
-
+class device_manager
+    : public owner<dvs_device_manager, dvs_device_manager_destroy, dvs_device_manager_copy,
+                   dvs_device_manager_equal, dvs_device_manager_save,
+                   dvs_device_manager_read_within, dvs_device, dvs_device_visit> {
   public:
     error make(uint32_t first_id, uint32_t last_id, uint64_t base, uint64_t size,
                dvs_refusal *refusal = nullptr) noexcept {
-        return create([=](object **out) {
+        return create([=](handle **out) {
             return dvs_device_manager_new(first_id, last_id, base, size, out, refusal);
         });
     }
     error reserve_first(uint64_t size, uint64_t alignment, dvs_device &device,
                         dvs_refusal *refusal = nullptr) noexcept {
-        return code(dvs_device_reserve_first(get(), size, alignment, &device, refusal));
+        return dvs_device_reserve_first(get(), size, alignment, &device, refusal);
     }
     error reserve_last(uint64_t size, uint64_t alignment, dvs_device &device,
                        dvs_refusal *refusal = nullptr) noexcept {
-        return code(dvs_device_reserve_last(get(), size, alignment, &device, refusal));
+        return dvs_device_reserve_last(get(), size, alignment, &device, refusal);
     }
     error reserve_exact(uint64_t size, uint64_t alignment, uint64_t start, dvs_device &device,
                         dvs_refusal *refusal = nullptr) noexcept {
-        return code(dvs_device_reserve_exact(get(), size, alignment, start, &device, refusal));
+        return dvs_device_reserve_exact(get(), size, alignment, start, &device, refusal);
     }
     error reserve(const request &asked, dvs_device &device,
                   dvs_refusal *refusal = nullptr) noexcept {
-        const dvs_request one = asked.for_call();
-        return code(dvs_device_reserve(get(), &one, &device, refusal));
+        return dvs_device_reserve(get(), asked.for_call(), &device, refusal);
     }
     error reserve_with_id(uint32_t first_id, uint32_t last_id, const request &asked,
                           dvs_device &device, dvs_refusal *refusal = nullptr) noexcept {
-        const dvs_request one = asked.for_call();
-        return code(dvs_device_reserve_with_id(get(), first_id, last_id, &one, &device, refusal));
+        return dvs_device_reserve_with_id(get(), first_id, last_id, asked.for_call(), &device,
+                                          refusal);
     }
     error move(uint32_t id, const request &asked, dvs_range &range,
                dvs_refusal *refusal = nullptr) noexcept {
-        const dvs_request one = asked.for_call();
-        return code(dvs_device_move(get(), id, &one, &range, refusal));
+        return dvs_device_move(get(), id, asked.for_call(), &range, refusal);
     }
     error conflict(const request &asked, dvs_refusal &found) const noexcept {
-        const dvs_request one = asked.for_call();
-        return code(dvs_device_conflict(get(), &one, &found));
+        return dvs_device_conflict(get(), asked.for_call(), &found);
     }
     error release(uint32_t id, dvs_refusal *refusal = nullptr) noexcept {
-        return code(dvs_device_release(get(), id, refusal));
+        return dvs_device_release(get(), id, refusal);
     }
     error ids(uint32_t &first, uint32_t &last) const noexcept {
-        return code(dvs_device_manager_ids(get(), &first, &last));
+        return dvs_device_manager_ids(get(), &first, &last);
     }
-    error space(dvs_range &space) const noexcept {
-        return code(dvs_device_manager_space(get(), &space));
-    }
+    error space(dvs_range &space) const noexcept { return dvs_device_manager_space(get(), &space); }
     error slot(uint32_t id, dvs_range &range, dvs_refusal *refusal = nullptr) const noexcept {
-        return code(dvs_device_slot(get(), id, &range, refusal));
+        return dvs_device_slot(get(), id, &range, refusal);
     }
-    error device_count(uint64_t &count) const noexcept {
-        return code(dvs_device_count(get(), &count));
-    }
+    error device_count(uint64_t &count) const noexcept { return dvs_device_count(get(), &count); }
     error at(uint64_t address, dvs_device &device) const noexcept {
-        return code(dvs_device_at(get(), address, &device));
+        return dvs_device_at(get(), address, &device);
     }
     error devices(std::vector<dvs_device> &devices) const {
         return list_by(dvs_device_visit, devices);
     }
-    template <typename Action> error for_each(Action action) const {
-        return visit_by<dvs_device>(dvs_device_visit, std::move(action));
-    }
 };
 
 /* A map is not saved. */
-class range_map : public owner<dvs_range_map, dvs_range_map_destroy, dvs_range_map_copy,
-                               dvs_range_map_equal, nullptr, nullptr> {
-    using object = dvs_range_map;
-
+class range_map
+    : public owner<dvs_range_map, dvs_range_map_destroy, dvs_range_map_copy, dvs_range_map_equal,
+                   nullptr, nullptr, dvs_valued_range, dvs_range_map_visit> {
   public:
     void read() = delete;
     void save() = delete;
     error make(uint64_t base, uint64_t size) noexcept {
-        return create([=](object **out) { return dvs_range_map_new(base, size, out); });
+        return create([=](handle **out) { return dvs_range_map_new(base, size, out); });
     }
     error allocate(uint64_t value, const request &asked, dvs_range &range,
                    dvs_refusal *refusal = nullptr) noexcept {
-        const dvs_request one = asked.for_call();
-        return code(dvs_range_map_allocate(get(), value, &one, &range, refusal));
+        return dvs_range_map_allocate(get(), value, asked.for_call(), &range, refusal);
     }
     error free(dvs_range range, uint64_t &value, dvs_refusal *refusal = nullptr) noexcept {
-        return code(dvs_range_map_free(get(), range, &value, refusal));
+        return dvs_range_map_free(get(), range, &value, refusal);
     }
     error move(dvs_range range, const request &asked, dvs_range &moved,
                dvs_refusal *refusal = nullptr) noexcept {
-        const dvs_request one = asked.for_call();
-        return code(dvs_range_map_move(get(), range, &one, &moved, refusal));
+        return dvs_range_map_move(get(), range, asked.for_call(), &moved, refusal);
     }
     error at(uint64_t address, dvs_valued_range &found) const noexcept {
-        return code(dvs_range_map_get(get(), address, &found));
+        return dvs_range_map_get(get(), address, &found);
     }
     error set(uint64_t address, uint64_t value, uint64_t &before) noexcept {
-        return code(dvs_range_map_set(get(), address, value, &before));
+        return dvs_range_map_set(get(), address, value, &before);
     }
-    error space(dvs_range &space) const noexcept {
-        return code(dvs_range_map_space(get(), &space));
-    }
-    error range_count(uint64_t &count) const noexcept {
-        return code(dvs_range_map_count(get(), &count));
-    }
+    error space(dvs_range &space) const noexcept { return dvs_range_map_space(get(), &space); }
+    error range_count(uint64_t &count) const noexcept { return dvs_range_map_count(get(), &count); }
     error ranges(std::vector<dvs_valued_range> &ranges) const {
         return list_by(dvs_range_map_visit, ranges);
-    }
-    template <typename Action> error for_each(Action action) const {
-        return visit_by<dvs_valued_range>(dvs_range_map_visit, std::move(action));
     }
 };
 

@@ -3,15 +3,15 @@
 
 use crate::handle::{found, Handle};
 use crate::ids::{dvs_id_allocator, write_range};
-use crate::objects::{calls, functions, object_calls, visits};
+use crate::objects::{calls, object_calls, visits};
 use crate::proved::vm_addresses::{AllocPolicy, Constraint, Error};
 use crate::proved::vm_devices::{DeviceManager, DeviceSlot};
 use crate::proved::vm_ids::IdRequest;
 use crate::ranges::{dvs_address_allocator, space_of};
 use crate::rattle::Global;
-use crate::requests::{answered, conflict, dvs_request, in_the_way};
+use crate::requests::{answered, in_the_way};
 use crate::texts::{read_devices, save_devices};
-use crate::{dvs_range, dvs_refusal, CallError, Out};
+use crate::{dvs_range, dvs_refusal, CallError, In, Out};
 use core::ffi::{c_int, c_void};
 
 /// A device manager behind a C pointer.
@@ -29,11 +29,9 @@ pub struct dvs_device {
 }
 
 impl From<DeviceSlot> for dvs_device {
-    fn from(slot: DeviceSlot) -> Self {
-        dvs_device {
-            range: slot.range.into(),
-            id: slot.id,
-        }
+    fn from(DeviceSlot { id, range }: DeviceSlot) -> Self {
+        let range = range.into();
+        dvs_device { range, id }
     }
 }
 
@@ -67,13 +65,6 @@ fn details(manager: &DeviceManager, id: IdRequest, request: Constraint) -> Optio
     in_the_way(request, manager.addresses().conflict(request))
 }
 
-functions! {
-    dvs_device_manager_new(first_id: u32, last_id: u32, base: u64, size: u64)
-        -> *mut dvs_device_manager [refusal] {
-        Handle::new(DeviceManager::new(Global, first_id, last_id, base, size)?)
-    }
-}
-
 object_calls! {
     dvs_device_manager: dvs_device_manager_destroy, dvs_device_manager_copy,
         dvs_device_manager_equal, dvs_device_manager_save by save_devices,
@@ -81,66 +72,69 @@ object_calls! {
 }
 
 calls! {
-    with_mut dvs_device_reserve_first(manager: dvs_device_manager, size: u64, alignment: u64)
-        -> device: dvs_device [refusal] {
-        reserve(manager, size, alignment, AllocPolicy::FirstMatch, refusal.is_some())
+    takes dvs_device_manager_new(first_id: u32, last_id: u32, base: u64, size: u64)
+        -> made: *mut dvs_device_manager [refusal] {
+        Handle::new(DeviceManager::new(Global, first_id, last_id, base, size)?)?
     }
-    with_mut dvs_device_reserve_last(manager: dvs_device_manager, size: u64, alignment: u64)
+    changes dvs_device_reserve_first(manager: In<dvs_device_manager>, size: u64, alignment: u64)
         -> device: dvs_device [refusal] {
-        reserve(manager, size, alignment, AllocPolicy::LastMatch, refusal.is_some())
+        reserve(manager, size, alignment, AllocPolicy::FirstMatch, refusal.is_some())?
     }
-    with_mut dvs_device_reserve_exact(
-        manager: dvs_device_manager, size: u64, alignment: u64, start: u64
+    changes dvs_device_reserve_last(manager: In<dvs_device_manager>, size: u64, alignment: u64)
+        -> device: dvs_device [refusal] {
+        reserve(manager, size, alignment, AllocPolicy::LastMatch, refusal.is_some())?
+    }
+    changes dvs_device_reserve_exact(
+        manager: In<dvs_device_manager>, size: u64, alignment: u64, start: u64
     ) -> device: dvs_device [refusal] {
-        reserve(manager, size, alignment, AllocPolicy::ExactMatch(start), refusal.is_some())
+        reserve(manager, size, alignment, AllocPolicy::ExactMatch(start), refusal.is_some())?
     }
     // An id without a device has the error of `dvs_device_release`.
-    with_ref dvs_device_slot(manager: dvs_device_manager, id: u32) -> range: dvs_range [refusal] {
-        Ok(manager.slot(id).ok_or(Error::NeverAllocated(id))?.into())
+    reads dvs_device_slot(manager: In<dvs_device_manager>, id: u32) -> range: dvs_range [refusal] {
+        manager.slot(id).ok_or(Error::NeverAllocated(id))?.into()
     }
-    with_ref dvs_device_at(manager: dvs_device_manager, address: u64) -> device: dvs_device {
-        found(manager.device_at(address))
+    reads dvs_device_at(manager: In<dvs_device_manager>, address: u64) -> device: dvs_device {
+        found(manager.device_at(address))?
     }
-    with_ref dvs_device_manager_space(manager: dvs_device_manager) -> ends: dvs_range {
-        Ok(space_of(manager.addresses()))
+    reads dvs_device_manager_space(manager: In<dvs_device_manager>) -> ends: dvs_range {
+        space_of(manager.addresses())
     }
-    with_ref dvs_device_count(manager: dvs_device_manager) -> count: u64 {
-        Ok(manager.device_count())
+    reads dvs_device_count(manager: In<dvs_device_manager>) -> count: u64 { manager.device_count() }
+    changes dvs_device_release(manager: In<dvs_device_manager>, id: u32) [refusal] {
+        manager.release(id)?
     }
-    with_mut_unit dvs_device_release(manager: dvs_device_manager, id: u32) [refusal] {
-        Ok(manager.release(id)?)
-    }
-    with_request dvs_device_reserve(manager: dvs_device_manager; request)
+    changes dvs_device_reserve(manager: In<dvs_device_manager>; request)
         -> device: dvs_device [refusal] {
-        reserve_request(manager, IdRequest::Lowest, request, refusal.is_some())
+        reserve_request(manager, IdRequest::Lowest, request, refusal.is_some())?
     }
-    with_request dvs_device_reserve_with_id(
-        manager: dvs_device_manager, first_id: u32, last_id: u32; request
+    changes dvs_device_reserve_with_id(
+        manager: In<dvs_device_manager>, first_id: u32, last_id: u32; request
     ) -> device: dvs_device [refusal] {
-        reserve_request(manager, IdRequest::LowestIn(first_id, last_id), request, refusal.is_some())
+        let id = IdRequest::LowestIn(first_id, last_id);
+        reserve_request(manager, id, request, refusal.is_some())?
     }
-    with_request dvs_device_move(manager: dvs_device_manager, id: u32; request)
+    changes dvs_device_move(manager: In<dvs_device_manager>, id: u32; request)
         -> range: dvs_range [refusal] {
         let moved = manager.move_constraint(Global, id, request);
-        answered(moved, refusal.is_some(), || {
+        let details = || {
             let range = manager.slot(id)?;
             in_the_way(request, manager.addresses().move_conflict(&range, request))
-        })
+        };
+        answered(moved, refusal.is_some(), details)?
     }
-    with_ref dvs_device_conflict(manager: dvs_device_manager, request: Option<&dvs_request>)
-        -> found: dvs_refusal {
-        conflict(manager.addresses(), request)
+    reads dvs_device_conflict(manager: In<dvs_device_manager>; request) -> found: dvs_refusal {
+        in_the_way(request, manager.addresses().conflict(request)).unwrap_or_default()
     }
-    with_ref dvs_device_manager_ids(manager: dvs_device_manager, first: Out<u32>) -> last: u32 {
-        write_range(manager.ids(), first)
+    reads dvs_device_manager_ids(manager: In<dvs_device_manager>, first: Out<u32>) -> last: u32 {
+        write_range(manager.ids(), first)?
     }
-    with_ref dvs_device_manager_copy_addresses(manager: dvs_device_manager)
+    reads dvs_device_manager_copy_addresses(manager: In<dvs_device_manager>)
         -> copied: *mut dvs_address_allocator {
-        Handle::new(manager.addresses().try_clone(Global)?)
+        Handle::new(manager.addresses().try_clone(Global)?)?
     }
-    with_ref dvs_device_manager_copy_ids(manager: dvs_device_manager)
+    reads dvs_device_manager_copy_ids(manager: In<dvs_device_manager>)
         -> copied: *mut dvs_id_allocator {
-        Handle::new(manager.ids().try_clone(Global)?)
+        Handle::new(manager.ids().try_clone(Global)?)?
     }
 }
 

@@ -1,12 +1,11 @@
 // SPDX-License-Identifier: Apache-2.0 OR BSD-3-Clause
 //! The objects that C has pointers to.
 
-use crate::proved::vm_addresses::{Constraint, Error, Result as Answer};
-use crate::requests::dvs_request;
-use crate::status::{DVS_BUSY, DVS_NULL};
+use crate::proved::vm_addresses::{Error, Result as Answer};
+use crate::rattle::{AllocError, Global, Vec};
+use crate::status::{dvs_status, DVS_BUSY, DVS_NULL};
 use crate::{CallError, Out};
 use alloc::boxed::Box;
-use alloc::vec::Vec;
 use core::cell::UnsafeCell;
 use core::ffi::c_int;
 use core::sync::atomic::{AtomicUsize, Ordering};
@@ -19,8 +18,8 @@ pub struct Handle<T> {
 }
 
 /// Returns the referent of a pointer, or `Null` if it is null.
-pub(crate) fn non_null<T>(pointer: Option<T>) -> Result<T, CallError> {
-    pointer.ok_or(DVS_NULL.into())
+pub(crate) fn non_null<T>(pointer: Option<T>) -> Result<T, dvs_status> {
+    pointer.ok_or(DVS_NULL)
 }
 
 impl<T> Handle<T> {
@@ -28,11 +27,10 @@ impl<T> Handle<T> {
     ///
     /// # Errors
     ///
-    /// - `OutOfMemory` if the allocation fails.
-    pub(crate) fn new(object: T) -> Result<*mut Handle<T>, CallError> {
-        let mut one = Vec::new();
+    /// - `AllocError` if the allocation fails.
+    pub(crate) fn new(object: T) -> Result<*mut Handle<T>, AllocError> {
         // A vector reports a failed allocation, and a box does not.
-        one.try_reserve_exact(1).map_err(|_| Error::OutOfMemory)?;
+        let mut one = alloc::vec::Vec::from(Vec::with_capacity(Global, 1)?);
         one.push(Handle {
             object: UnsafeCell::new(object),
             visits: AtomicUsize::new(0),
@@ -52,7 +50,7 @@ impl<T> Handle<T> {
     pub(crate) unsafe fn destroy(pointer: *mut Handle<T>) -> Result<(), CallError> {
         // SAFETY: it is null or points to a handle that `new` made.
         if let Some(handle) = unsafe { pointer.as_ref() } {
-            handle.check_not_visited()?;
+            handle.get_mut()?;
             // SAFETY: `new` made it as a box of one handle, and it is dropped only here.
             drop(unsafe { Box::from_raw(pointer) });
         }
@@ -69,15 +67,10 @@ impl<T> Handle<T> {
     /// Returns the object for writing, or `Busy` if it is being visited.
     #[allow(clippy::mut_from_ref)]
     pub(crate) fn get_mut(&self) -> Result<&mut T, CallError> {
-        self.check_not_visited()?;
-        // SAFETY: no visit reads the object, and the header forbids other calls on it at the same
-        // time.
-        Ok(unsafe { &mut *self.object.get() })
-    }
-
-    fn check_not_visited(&self) -> Result<(), CallError> {
         match self.visits.load(Ordering::Relaxed) {
-            0 => Ok(()),
+            // SAFETY: no visit reads the object, and the header forbids other calls on it at the same
+            // time.
+            0 => Ok(unsafe { &mut *self.object.get() }),
             _ => Err(DVS_BUSY.into()),
         }
     }
@@ -102,55 +95,12 @@ pub(crate) fn visit<'a, T, I: Iterator>(
     Ok(())
 }
 
-/// Writes the result of a call without an object to `out`.
-pub(crate) fn with_out<A>(
-    out: Out<A>,
-    answer: impl FnOnce() -> Result<A, CallError>,
-) -> Result<(), CallError> {
-    non_null(out)?.write(answer()?);
-    Ok(())
-}
-
-/// Writes the result of a query to `out`.
+/// Writes the result of a call to `out`, if the call has a result.
 #[inline(always)]
-pub(crate) fn with_ref<T, A>(
-    handle: Option<&Handle<T>>,
-    out: Out<A>,
-    answer: impl FnOnce(&T) -> Result<A, CallError>,
-) -> Result<(), CallError> {
-    let handle = non_null(handle)?;
-    with_out(out, || answer(handle.get()))
-}
-
-/// Changes an object, and writes the result to `out`.
-#[inline(always)]
-pub(crate) fn with_mut<T, A>(
-    handle: Option<&Handle<T>>,
-    out: Out<A>,
-    change: impl FnOnce(&mut T) -> Result<A, CallError>,
-) -> Result<(), CallError> {
-    let handle = non_null(handle)?;
-    with_out(out, || change(handle.get_mut()?))
-}
-
-/// Changes an object without a result.
-#[inline(always)]
-pub(crate) fn with_mut_unit<T>(
-    handle: Option<&Handle<T>>,
-    change: impl FnOnce(&mut T) -> Result<(), CallError>,
-) -> Result<(), CallError> {
-    change(non_null(handle)?.get_mut()?)
-}
-
-/// Changes an object by a request, and writes the result to `out`.
-pub(crate) fn with_request<T, A>(
-    handle: Option<&Handle<T>>,
-    request: Option<&dvs_request>,
-    out: Out<A>,
-    change: impl FnOnce(&mut T, Constraint) -> Result<A, CallError>,
-) -> Result<(), CallError> {
-    let request = non_null(request)?;
-    with_mut(handle, out, |object| change(object, request.constraint()?))
+pub(crate) fn write<A>(answer: A, out: Out<A>) {
+    if let Some(out) = out {
+        out.write(answer);
+    }
 }
 
 /// Returns the item that a look-up has found.

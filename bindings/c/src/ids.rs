@@ -1,14 +1,14 @@
 // SPDX-License-Identifier: Apache-2.0 OR BSD-3-Clause
 //! The id allocator.
 
-use crate::handle::{non_null, with_out, Handle};
+use crate::handle::{non_null, Handle};
 use crate::lists::array;
-use crate::objects::{calls, functions, object_calls, visits};
+use crate::objects::{calls, object_calls, visits};
 use crate::proved::vm_ids::IdAllocator;
 use crate::rattle::Global;
 use crate::status::{refused_id, DVS_NULL};
 use crate::texts::{read_ids, text_of};
-use crate::{dvs_refusal, dvs_status, status_of, CallError, Out};
+use crate::{CallError, In, Out};
 use core::ffi::{c_int, c_void};
 
 /// An id allocator behind a C pointer.
@@ -25,61 +25,10 @@ fn first_not_above(ids: &[u32]) -> u32 {
         .map_or(0, |pair| pair[1])
 }
 
-/// # Safety
-///
-/// The array is null or points to `count` readable ids.
-#[unsafe(no_mangle)]
-pub unsafe extern "C" fn dvs_id_allocator_with_held(
-    first: u32,
-    last: u32,
-    held: *const u32,
-    count: usize,
-    allocator: Out<*mut dvs_id_allocator>,
-    refusal: Out<dvs_refusal>,
-) -> dvs_status {
-    let make = || {
-        // SAFETY: the caller's contract.
-        let held = unsafe { array(held, count) }?;
-        let made = IdAllocator::with_held(Global, first, last, held);
-        Handle::new(made.map_err(|error| refused_id(error, first_not_above(held)))?)
-    };
-    status_of(with_out(allocator, make), refusal)
-}
-
-/// # Safety
-///
-/// The array is null or points to `count` writable ids.
-#[unsafe(no_mangle)]
-pub unsafe extern "C" fn dvs_ids_allocate(
-    allocator: Option<&dvs_id_allocator>,
-    ids: *mut u32,
-    count: usize,
-) -> dvs_status {
-    let allocate = || {
-        let allocator = non_null(allocator)?;
-        if ids.is_null() && count > 0 {
-            return Err(DVS_NULL.into());
-        }
-        let allocated = allocator.get_mut()?.allocate_ids(Global, count)?;
-        for (index, id) in allocated.iter().enumerate() {
-            // SAFETY: there is a writable id for each index.
-            unsafe { ids.add(index).write(*id) };
-        }
-        Ok(())
-    };
-    status_of(allocate(), None)
-}
-
 /// Writes the first id of an allocator to `first`, and returns the last one.
 pub(crate) fn write_range(ids: &IdAllocator, first: Out<u32>) -> Result<u32, CallError> {
     non_null(first)?.write(ids.range_base());
     Ok(ids.range_end())
-}
-
-functions! {
-    dvs_id_allocator_new(first: u32, last: u32) -> *mut dvs_id_allocator [refusal] {
-        Handle::new(IdAllocator::new(Global, first, last)?)
-    }
 }
 
 object_calls! {
@@ -89,26 +38,47 @@ object_calls! {
 }
 
 calls! {
-    with_mut dvs_id_allocate(ids: dvs_id_allocator) -> id: u32 { Ok(ids.allocate_id()?) }
-    with_mut dvs_id_allocate_in(ids: dvs_id_allocator, first: u32, last: u32)
+    takes dvs_id_allocator_new(first: u32, last: u32) -> made: *mut dvs_id_allocator [refusal] {
+        Handle::new(IdAllocator::new(Global, first, last)?)?
+    }
+    takes dvs_id_allocator_with_held(first: u32, last: u32, held: *const u32, count: usize)
+        -> made: *mut dvs_id_allocator [refusal] {
+        // SAFETY: the array is null or has `count` readable ids.
+        let held = unsafe { array(held, count) }?;
+        let made = IdAllocator::with_held(Global, first, last, held);
+        Handle::new(made.map_err(|error| refused_id(error, first_not_above(held)))?)?
+    }
+    takes dvs_ids_allocate(allocator: In<dvs_id_allocator>, ids: *mut u32, count: usize) {
+        let allocator = non_null(allocator)?;
+        if ids.is_null() && count > 0 {
+            return Err(DVS_NULL.into());
+        }
+        let allocated = allocator.get_mut()?.allocate_ids(Global, count)?;
+        for (index, id) in allocated.iter().enumerate() {
+            // SAFETY: the array has a writable id for each index.
+            unsafe { ids.add(index).write(*id) };
+        }
+    }
+    changes dvs_id_allocate(ids: In<dvs_id_allocator>) -> id: u32 { ids.allocate_id()? }
+    changes dvs_id_allocate_in(ids: In<dvs_id_allocator>, first: u32, last: u32)
         -> id: u32 [refusal] {
-        Ok(ids.allocate_in(first, last)?)
+        ids.allocate_in(first, last)?
     }
-    with_mut_unit dvs_id_allocate_exact(ids: dvs_id_allocator, id: u32) [refusal] {
-        ids.allocate_exact(id).map(drop).map_err(|error| refused_id(error, id))
+    changes dvs_id_allocate_exact(ids: In<dvs_id_allocator>, id: u32) [refusal] {
+        ids.allocate_exact(id).map_err(|error| refused_id(error, id))?;
     }
-    with_mut_unit dvs_id_free(ids: dvs_id_allocator, id: u32) [refusal] {
-        Ok(ids.free_id(id).map(drop)?)
+    changes dvs_id_free(ids: In<dvs_id_allocator>, id: u32) [refusal] {
+        ids.free_id(id)?;
     }
-    with_ref dvs_id_allocator_range(ids: dvs_id_allocator, first: Out<u32>) -> last: u32 {
-        write_range(ids, first)
+    reads dvs_id_allocator_range(ids: In<dvs_id_allocator>, first: Out<u32>) -> last: u32 {
+        write_range(ids, first)?
     }
-    with_ref dvs_id_peek(ids: dvs_id_allocator) -> id: u32 { Ok(ids.peek_id()?) }
-    with_ref dvs_id_is_allocated(ids: dvs_id_allocator, id: u32) -> is_allocated: bool {
-        Ok(ids.is_allocated(id))
+    reads dvs_id_peek(ids: In<dvs_id_allocator>) -> id: u32 { ids.peek_id()? }
+    reads dvs_id_is_allocated(ids: In<dvs_id_allocator>, id: u32) -> is_allocated: bool {
+        ids.is_allocated(id)
     }
-    with_ref dvs_id_count(ids: dvs_id_allocator) -> count: u64 { Ok(ids.held_count()) }
-    with_ref dvs_id_free_count(ids: dvs_id_allocator) -> count: u64 { Ok(ids.free_count()) }
+    reads dvs_id_count(ids: In<dvs_id_allocator>) -> count: u64 { ids.held_count() }
+    reads dvs_id_free_count(ids: In<dvs_id_allocator>) -> count: u64 { ids.free_count() }
 }
 
 visits! {

@@ -4,10 +4,11 @@
 use crate::conditions::field_and_text;
 use crate::proved::vm_addresses::SavedError;
 use crate::status::{
-    dvs_status, DVS_LIMIT_EXCEEDED, DVS_NOT_A_STATE, DVS_NOT_JSON, DVS_OUT_OF_MEMORY,
+    dvs_status, dvs_status_text, Failure, DVS_LIMIT_EXCEEDED, DVS_NOT_A_STATE, DVS_NOT_JSON,
+    DVS_OUT_OF_MEMORY,
 };
-use core::ffi::CStr;
-use core::str;
+use core::ffi::{c_char, CStr};
+use core::{ptr, str};
 
 /// The maximum nesting of a text.
 const MAX_DEPTH: u32 = 128;
@@ -24,35 +25,46 @@ pub struct dvs_text_limits {
 }
 
 /// The reason why a text was not read, and the place of it.
-pub(crate) struct TextFault {
-    pub(crate) status: dvs_status,
-    pub(crate) offset: usize,
-    pub(crate) reason: Option<&'static CStr>,
-    /// The innermost field that has a wrong value, is missing or is duplicate.
-    pub(crate) field: Option<&'static CStr>,
+#[repr(C)]
+#[derive(Clone, Copy)]
+pub struct dvs_text_fault {
+    offset: usize,
+    reason: *const c_char,
+    field: *const c_char,
 }
 
+/// The error of a text.
+pub(crate) type TextFault = Failure<dvs_text_fault>;
+
 impl From<dvs_status> for TextFault {
-    fn from(status: dvs_status) -> TextFault {
-        TextFault {
-            status,
-            offset: 0,
-            reason: None,
-            field: None,
-        }
+    fn from(status: dvs_status) -> Self {
+        TextFault::of(status, 0, dvs_status_text(status))
     }
 }
 
 impl TextFault {
-    /// Returns the fault at another offset.
-    pub(crate) fn at(self, offset: usize) -> TextFault {
-        TextFault { offset, ..self }
+    pub(crate) fn of(status: dvs_status, offset: usize, reason: *const c_char) -> Self {
+        let field = ptr::null();
+        let details = dvs_text_fault {
+            offset,
+            reason,
+            field,
+        };
+        TextFault::new(status, details)
     }
 
-    /// Returns the fault in a field, unless it is in a field of this one.
-    fn in_field(self, name: &'static CStr) -> TextFault {
-        let field = self.field.or(Some(name));
-        TextFault { field, ..self }
+    /// Returns the fault at another offset.
+    pub(crate) fn at(mut self, offset: usize) -> Self {
+        self.details.offset = offset;
+        self
+    }
+
+    /// Returns the fault in a field, unless it is in a field of this one, or the text is not JSON.
+    fn in_field(mut self, name: &'static CStr) -> Self {
+        if self.details.field.is_null() && self.status == DVS_NOT_A_STATE {
+            self.details.field = name.as_ptr();
+        }
+        self
     }
 }
 
@@ -72,22 +84,28 @@ pub(crate) struct Reader<'a> {
 }
 
 impl<'a> Reader<'a> {
-    pub(crate) fn new(text: &'a str, limits: dvs_text_limits) -> Self {
-        Reader {
+    /// Reads the value of a whole text.
+    pub(crate) fn read<T>(
+        text: &'a str,
+        limits: dvs_text_limits,
+        read: impl FnOnce(&mut Reader<'a>) -> Read<T>,
+    ) -> Read<T> {
+        let mut reader = Reader {
             text: text.as_bytes(),
             at: 0,
             depth: 0,
             limits,
+        };
+        let value = read(&mut reader)?;
+        match reader.peek() {
+            None => Ok(value),
+            Some(_) => Err(reader.not_json(c"the end of the text is expected")),
         }
     }
 
     /// Returns a fault at the rest.
     fn fault(&self, status: dvs_status, reason: &'static CStr) -> TextFault {
-        TextFault {
-            offset: self.at,
-            reason: Some(reason),
-            ..status.into()
-        }
+        TextFault::of(status, self.at, reason.as_ptr())
     }
 
     fn not_json(&self, reason: &'static CStr) -> TextFault {
@@ -105,11 +123,11 @@ impl<'a> Reader<'a> {
         };
         let (field, text) = field_and_text(condition);
         let wrong = fields.iter().find(|(name, _)| *name == field);
-        let offset = wrong.map_or(self.at, |(_, value)| *value);
-        TextFault {
-            offset,
-            field,
-            ..self.not_a_state(text)
+        let fault = self.not_a_state(text);
+        let fault = fault.at(wrong.map_or(self.at, |(_, value)| *value));
+        match field {
+            Some(name) => fault.in_field(name),
+            None => fault,
         }
     }
 
@@ -162,8 +180,8 @@ impl<'a> Reader<'a> {
         while is_more {
             read(self)?;
             is_more = self.skip(b',');
-            if !is_more && !self.skip(close) {
-                return Err(self.not_json(c"a comma or a closing bracket is expected"));
+            if !is_more {
+                self.expect(close, c"a comma or a closing bracket is expected")?;
             }
         }
         self.depth -= 1;
@@ -189,23 +207,22 @@ impl<'a> Reader<'a> {
                 let fault = from.not_a_state(c"the field is duplicate");
                 return Err(fault.at(start).in_field(name));
             }
-            from.expect_colon()?;
+            from.expect(b':', c"a colon is expected")?;
             *value = from.start();
             read(from, place).map_err(|fault| fault.in_field(name))
         })?;
+        let fault = || self.not_a_state(c"the field is missing");
         match fields.iter().position(|(_, value)| *value == 0) {
             None => Ok(fields),
-            Some(missing) => {
-                let fault = self.not_a_state(c"the field is missing");
-                Err(fault.in_field(names[missing]))
-            }
+            Some(missing) => Err(fault().in_field(names[missing])),
         }
     }
 
-    fn expect_colon(&mut self) -> Read<()> {
-        match self.skip(b':') {
+    /// Reads this byte after white space.
+    fn expect(&mut self, byte: u8, reason: &'static CStr) -> Read<()> {
+        match self.skip(byte) {
             true => Ok(()),
-            false => Err(self.not_json(c"a colon is expected")),
+            false => Err(self.not_json(reason)),
         }
     }
 
@@ -214,9 +231,17 @@ impl<'a> Reader<'a> {
         value.ok_or_else(|| self.not_a_state(c"a field is missing"))
     }
 
-    /// Reads a list. `read` reads an item.
-    pub(crate) fn list(&mut self, read: impl FnMut(&mut Self) -> Read<()>) -> Read<()> {
-        self.items(*b"[]", c"a list is expected", read)
+    /// Reads a list. `read` reads an item, and `push` checks it.
+    pub(crate) fn list<T>(
+        &mut self,
+        read: impl Fn(&mut Self) -> Read<T>,
+        mut push: impl FnMut(T) -> Result<(), SavedError>,
+    ) -> Read<()> {
+        self.items(*b"[]", c"a list is expected", |from| {
+            let item = [(None, from.start())];
+            let pushed = push(read(from)?);
+            pushed.map_err(|error| from.of_parts(error, &item))
+        })
     }
 
     /// Reads `null` if it is next, and returns whether it was.
@@ -229,8 +254,7 @@ impl<'a> Reader<'a> {
 
     /// Reads a whole number that is at most `most`.
     pub(crate) fn whole(&mut self, most: u64) -> Read<u64> {
-        let first = self.value()?;
-        let start = self.at;
+        let (first, start) = (self.value()?, self.at);
         let number = match first {
             Some(b'-' | b'0'..=b'9') => self.number()?,
             _ => None,
@@ -242,8 +266,7 @@ impl<'a> Reader<'a> {
 
     /// Reads one of some texts, and returns its index.
     pub(crate) fn one_of(&mut self, texts: &[&'static CStr]) -> Read<usize> {
-        let first = self.value()?;
-        let start = self.at;
+        let (first, start) = (self.value()?, self.at);
         let text = match first {
             Some(b'"') => self.string(texts)?,
             _ => None,
@@ -251,30 +274,16 @@ impl<'a> Reader<'a> {
         text.ok_or_else(|| self.not_a_state(c"another text is expected").at(start))
     }
 
-    /// Checks that the whole text is JSON.
-    pub(crate) fn check(mut self) -> Read<()> {
-        self.check_value()?;
-        self.end()
-    }
-
-    /// Checks that no value follows.
-    pub(crate) fn end(&mut self) -> Read<()> {
-        match self.peek() {
-            None => Ok(()),
-            Some(_) => Err(self.not_json(c"the end of the text is expected")),
-        }
-    }
-
     /// Reads a value of any kind.
-    fn check_value(&mut self) -> Read<()> {
+    pub(crate) fn check_value(&mut self) -> Read<()> {
         match self.value()? {
             Some(b'{') => self.items(*b"{}", c"", |from| {
                 from.peek();
                 from.string(&[])?;
-                from.expect_colon()?;
+                from.expect(b':', c"a colon is expected")?;
                 from.check_value()
             }),
-            Some(b'[') => self.list(Self::check_value),
+            Some(b'[') => self.items(*b"[]", c"", Self::check_value),
             Some(b'"') => self.string(&[]).map(|_| ()),
             Some(b'n') => self.word("null"),
             Some(b't') => self.word("true"),
@@ -295,28 +304,27 @@ impl<'a> Reader<'a> {
     /// Reads a number. Returns it if it is a whole number of 64 bits.
     fn number(&mut self) -> Read<Option<u64>> {
         let start = self.at;
-        let mut is_whole = !self.skip_mark(b"-");
+        self.skip_mark(b"-");
+        let digits = self.at;
         let whole = match self.skip_mark(b"0") {
             true => Some(0),
             false => self.digits()?,
         };
+        let end = self.at;
         if self.skip_mark(b".") {
             self.digits()?;
-            is_whole = false;
         }
         if self.skip_mark(b"eE") {
             self.skip_mark(b"+-");
             self.digits()?;
-            is_whole = false;
         }
-        if is_whole && whole.is_some() {
+        if whole.is_some() && (digits, end) == (start, self.at) {
             return Ok(whole);
         }
+        let fault = || self.not_json(c"a number is greater than any double");
         match self.text_from(start).parse::<f64>() {
             Ok(number) if number.is_finite() => Ok(None),
-            _ => Err(self
-                .not_json(c"a number is greater than any double")
-                .at(start)),
+            _ => Err(fault().at(start)),
         }
     }
 
@@ -353,49 +361,38 @@ impl<'a> Reader<'a> {
         if !self.skip_mark(b"\"") {
             return Err(self.not_json(c"a string is expected"));
         }
+        // Most names have no escape, so the bytes of the text are compared first.
         let rest = &self.text[self.at..];
         let is_next = |known: &&CStr| {
-            let known = known.to_bytes();
-            rest.starts_with(known) && rest.get(known.len()) == Some(&b'"')
+            let after = rest.strip_prefix(known.to_bytes());
+            after.is_some_and(|after| after.starts_with(b"\""))
         };
         if let Some(place) = known.iter().position(is_next) {
             self.at += known[place].to_bytes().len() + 1;
             return Ok(Some(place));
         }
-        // Any other string is decoded, as far as it could be known.
-        let mut bytes = [0; MANY_BYTES];
-        let mut length = 0;
-        let mut add = |piece: &[u8]| {
-            let end = MANY_BYTES.min(length + piece.len());
-            bytes[length..end].copy_from_slice(&piece[..end - length]);
-            length = end;
-        };
-        loop {
-            let start = self.at;
-            let end = self.skip_plain()?;
-            add(&self.text[start..self.at - 1]);
-            match end {
-                b'"' => {
-                    let is_same = |known: &&CStr| known.to_bytes() == &bytes[..length];
-                    return Ok(known.iter().position(is_same));
-                }
-                _ => add(self.escape()?.encode_utf8(&mut [0; 4]).as_bytes()),
+        let (mut bytes, mut length) = ([0; MANY_BYTES], 0);
+        while let Some(character) = self.character()? {
+            if let Some(byte) = bytes.get_mut(length) {
+                // No name has a character that is not ASCII.
+                *byte = u8::try_from(character).unwrap_or(u8::MAX);
+                length += 1;
             }
         }
+        let is_same = |known: &&CStr| known.to_bytes() == &bytes[..length];
+        Ok(known.iter().position(is_same))
     }
 
-    /// Reads to the next quote or backslash, and returns it.
-    fn skip_plain(&mut self) -> Read<u8> {
-        let ends = |byte: &u8| matches!(byte, b'"' | b'\\' | 0..=0x1f);
-        let rest = &self.text[self.at..];
-        let length = rest.iter().position(ends).unwrap_or(rest.len());
-        self.at += length;
-        match rest.get(length) {
-            Some(end @ (b'"' | b'\\')) => {
-                self.at += 1;
-                Ok(*end)
-            }
-            _ => Err(self.not_json(c"a string has no end, or a control character")),
+    /// Reads a character of a string, or its end. Each byte of a character that is not ASCII counts as one.
+    fn character(&mut self) -> Read<Option<char>> {
+        let Some(byte @ 0x20..) = self.text.get(self.at).copied() else {
+            return Err(self.not_json(c"a string has no end, or a control character"));
+        };
+        self.at += 1;
+        match byte {
+            b'"' => Ok(None),
+            b'\\' => self.escape().map(Some),
+            _ => Ok(Some(byte.into())),
         }
     }
 
@@ -429,9 +426,10 @@ impl<'a> Reader<'a> {
 
     /// Reads the number of four hexadecimal digits.
     fn utf16_unit(&mut self) -> Option<u16> {
-        let digits = str::from_utf8(self.text.get(self.at..self.at + 4)?).ok()?;
+        let digits = self.text.get(self.at..self.at + 4)?;
         self.at += 4;
-        let is_number = digits.bytes().all(|digit| digit.is_ascii_hexdigit());
-        u16::from_str_radix(digits, 16).ok().filter(|_| is_number)
+        digits.iter().try_fold(0, |unit, digit| {
+            Some(unit * 16 + char::from(*digit).to_digit(16)? as u16)
+        })
     }
 }

@@ -41,6 +41,9 @@ use crate::proved::vm_addresses::RangeInclusive;
 use core::mem::MaybeUninit;
 use status::{dvs_refusal, dvs_status, status_of, CallError};
 
+/// A pointer to an argument.
+type In<'a, T> = Option<&'a T>;
+
 /// The destination of a result.
 type Out<'a, T> = Option<&'a mut MaybeUninit<T>>;
 
@@ -54,10 +57,8 @@ pub struct dvs_range {
 
 impl From<RangeInclusive> for dvs_range {
     fn from(range: RangeInclusive) -> Self {
-        dvs_range {
-            start: range.start(),
-            end: range.end(),
-        }
+        let (start, end) = (range.start(), range.end());
+        dvs_range { start, end }
     }
 }
 

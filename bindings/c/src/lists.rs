@@ -2,14 +2,15 @@
 //! Calls with arrays of ranges and of requests.
 
 use crate::handle::{non_null, Handle};
+use crate::objects::calls;
 use crate::proved::vm_addresses::{
     AddressAllocator, AllocPolicy, Constraint, Error, ListError, RangeInclusive,
 };
 use crate::ranges::dvs_address_allocator;
-use crate::rattle::Global;
+use crate::rattle::{self, Global};
 use crate::requests::{because_of, dvs_request, in_the_way, refused};
-use crate::status::{DVS_CAUSE_EARLIER_REQUEST, DVS_NULL, DVS_OUT_OF_MEMORY};
-use crate::{dvs_range, dvs_refusal, dvs_status, status_of, CallError, Out};
+use crate::status::{DVS_CAUSE_EARLIER_REQUEST, DVS_NULL};
+use crate::{dvs_range, dvs_refusal, CallError, In, Out};
 use alloc::vec::Vec;
 use core::slice;
 
@@ -37,22 +38,10 @@ pub(crate) unsafe fn array<'a, T>(first: *const T, count: usize) -> Result<&'a [
     Ok(unsafe { slice::from_raw_parts(first, count) })
 }
 
-/// The error of a call with an array, and the index of the member that failed, if one did.
-struct ArrayError {
-    index: Option<usize>,
-    error: CallError,
-}
-
-impl From<CallError> for ArrayError {
-    fn from(error: CallError) -> Self {
-        ArrayError { index: None, error }
-    }
-}
-
-impl From<ListError> for ArrayError {
+impl From<ListError> for CallError {
     fn from(ListError { index, error }: ListError) -> Self {
-        let error = error.into();
-        ArrayError { index, error }
+        let failure = CallError::from(error);
+        CallError { index, ..failure }
     }
 }
 
@@ -66,139 +55,83 @@ impl From<ListError> for ArrayError {
 fn converted<T, P>(
     members: &[T],
     convert: impl Fn(&T) -> Result<P, CallError>,
-) -> Result<Vec<P>, ArrayError> {
+) -> Result<Vec<P>, CallError> {
     for (index, member) in members.iter().enumerate() {
-        convert(member).map_err(|error| ArrayError {
-            index: Some(index),
-            error,
-        })?;
+        let index = Some(index);
+        convert(member).map_err(|failure| CallError { index, ..failure })?;
     }
-    let mut list = Vec::new();
-    let reserved = list.try_reserve_exact(members.len());
-    reserved.map_err(|_| CallError::from(DVS_OUT_OF_MEMORY))?;
+    let mut list = Vec::from(rattle::Vec::with_capacity(Global, members.len())?);
     list.extend(members.iter().flat_map(convert));
     Ok(list)
 }
 
-/// Returns the status of a call with an array of `count` members. Writes the index of the member that
-/// failed to `failed`, or `count` if none did.
-fn status_of_array(
-    answer: Result<(), ArrayError>,
-    count: usize,
-    failed: Out<usize>,
-    refusal: Out<dvs_refusal>,
-) -> dvs_status {
+/// Writes the index of the member of an array that failed to `failed`, or the length of the array if none did.
+pub(crate) fn write_failed(answer: &Result<(), CallError>, length: usize, failed: Out<usize>) {
     if let Some(failed) = failed {
         let index = answer.as_ref().err().and_then(|failure| failure.index);
-        failed.write(index.unwrap_or(count));
+        failed.write(index.unwrap_or(length));
     }
-    status_of(answer.map_err(|failure| failure.error), refusal)
 }
 
-/// Creates an allocator from an array of ranges, and writes its pointer to `out`.
+/// Converts an array of ranges.
 ///
 /// # Safety
 ///
-/// The array is null or points to `count` readable ranges.
-unsafe fn create_from(
+/// The array is null or has `count` readable ranges.
+unsafe fn ranges_of(
     ranges: *const dvs_range,
     count: usize,
-    out: Out<*mut dvs_address_allocator>,
-    made: impl FnOnce(&[RangeInclusive]) -> Result<AddressAllocator, ListError>,
-) -> Result<(), ArrayError> {
-    let out = non_null(out)?;
+) -> Result<Vec<RangeInclusive>, CallError> {
     // SAFETY: the caller's contract.
     let ranges = unsafe { array(ranges, count) }?;
-    let ranges = converted(ranges, |range| Ok((*range).try_into()?))?;
-    out.write(Handle::new(made(&ranges)?)?);
-    Ok(())
-}
-
-/// # Safety
-///
-/// The array is null or points to `count` readable ranges.
-#[unsafe(no_mangle)]
-pub unsafe extern "C" fn dvs_address_allocator_with_held(
-    base: u64,
-    size: u64,
-    held: *const dvs_range,
-    count: usize,
-    allocator: Out<*mut dvs_address_allocator>,
-    failed: Out<usize>,
-    refusal: Out<dvs_refusal>,
-) -> dvs_status {
-    let made = |held: &_| AddressAllocator::with_held(Global, base, size, held);
-    // SAFETY: the caller's contract.
-    let made = unsafe { create_from(held, count, allocator, made) };
-    status_of_array(made, count, failed, refusal)
-}
-
-/// # Safety
-///
-/// The array is null or points to `count` readable ranges.
-#[unsafe(no_mangle)]
-pub unsafe extern "C" fn dvs_address_allocator_with_free(
-    ranges: *const dvs_range,
-    count: usize,
-    allocator: Out<*mut dvs_address_allocator>,
-    failed: Out<usize>,
-    refusal: Out<dvs_refusal>,
-) -> dvs_status {
-    let made = |free: &_| AddressAllocator::with_free(Global, free);
-    // SAFETY: the caller's contract.
-    let made = unsafe { create_from(ranges, count, allocator, made) };
-    status_of_array(made, count, failed, refusal)
+    converted(ranges, |range| Ok((*range).try_into()?))
 }
 
 /// Returns the details of a request for a given start that only an earlier request of its list is in the way
 /// of. `allocate_all` has freed the range of that one.
 fn earlier(request: Constraint) -> Option<dvs_refusal> {
-    match request.policy() {
-        AllocPolicy::ExactMatch(_) => Some(because_of(
-            DVS_CAUSE_EARLIER_REQUEST,
-            request,
-            dvs_range::default(),
-        )),
-        _ => None,
-    }
+    let is_exact = matches!(request.policy(), AllocPolicy::ExactMatch(_));
+    is_exact.then(|| because_of(DVS_CAUSE_EARLIER_REQUEST, request, dvs_range::default()))
 }
 
-/// # Safety
-///
-/// The requests are null or point to `count` readable requests. The ranges are null or point to
-/// `count` writable ranges.
-#[unsafe(no_mangle)]
-pub unsafe extern "C" fn dvs_address_allocator_allocate_all(
-    allocator: Option<&dvs_address_allocator>,
-    requests: *const dvs_request,
-    count: usize,
-    ranges: *mut dvs_range,
-    failed: Out<usize>,
-    refusal: Out<dvs_refusal>,
-) -> dvs_status {
-    let allocate = || {
+calls! {
+    takes dvs_address_allocator_with_held(
+        base: u64, size: u64, held: *const dvs_range, count: usize
+    ) -> made: *mut dvs_address_allocator, failed of count [refusal] {
+        // SAFETY: the array is as the header requires.
+        let held = unsafe { ranges_of(held, count) }?;
+        Handle::new(AddressAllocator::with_held(Global, base, size, &held)?)?
+    }
+    takes dvs_address_allocator_with_free(ranges: *const dvs_range, count: usize)
+        -> made: *mut dvs_address_allocator, failed of count [refusal] {
+        // SAFETY: the array is as the header requires.
+        let free = unsafe { ranges_of(ranges, count) }?;
+        Handle::new(AddressAllocator::with_free(Global, &free)?)?
+    }
+    takes dvs_address_allocator_allocate_all(
+        allocator: In<dvs_address_allocator>, requests: *const dvs_request, count: usize,
+        ranges: *mut dvs_range
+    ), failed of count [refusal] {
         let allocator = non_null(allocator)?;
         if count > 0 && (requests.is_null() || ranges.is_null()) {
-            return Err(CallError::from(DVS_NULL).into());
+            return Err(DVS_NULL.into());
         }
         let object = allocator.get_mut()?;
-        // SAFETY: the caller's contract.
+        // SAFETY: the array has `count` readable requests.
         let requests = unsafe { array(requests, count) }?;
         let requests = converted(requests, dvs_request::constraint)?;
-        let allocated = object.allocate_all(Global, &requests).map_err(|failure| {
+        let allocated = object.allocate_all(Global, &requests);
+        let allocated = allocated.map_err(|ListError { index, error }| {
             let details = || {
-                let request = *requests.get(failure.index?)?;
+                let request = *requests.get(index?)?;
                 in_the_way(request, object.conflict(request)).or_else(|| earlier(request))
             };
-            let error = refused(failure.error, refusal.is_some(), details);
-            let index = failure.index;
-            ArrayError { index, error }
+            let failure = refused(error, refusal.is_some(), details);
+            CallError { index, ..failure }
         })?;
         for (index, range) in allocated.iter().enumerate() {
-            // SAFETY: there is a writable range for each request.
+            // SAFETY: the array has a writable range for each request.
             unsafe { ranges.add(index).write((*range).into()) };
         }
-        Ok(())
-    };
-    status_of_array(allocate(), count, failed, refusal)
+    }
 }

@@ -1,13 +1,13 @@
 // SPDX-License-Identifier: Apache-2.0 OR BSD-3-Clause
 //! The map from allocated ranges to values.
 
-use crate::dvs_range;
 use crate::handle::{found, Handle};
-use crate::objects::{calls, functions, object_calls, visits};
+use crate::objects::{calls, object_calls, visits};
 use crate::proved::vm_range_map::{RangeMap, ValuedRange};
 use crate::ranges::space_of;
 use crate::rattle::Global;
 use crate::requests::{answered, in_the_way};
+use crate::{dvs_range, In};
 use core::ffi::{c_int, c_void};
 
 /// A map behind a C pointer.
@@ -25,52 +25,43 @@ pub struct dvs_valued_range {
 }
 
 impl From<ValuedRange> for dvs_valued_range {
-    fn from(found: ValuedRange) -> Self {
-        dvs_valued_range {
-            range: found.range.into(),
-            value: found.value,
-        }
-    }
-}
-
-functions! {
-    dvs_range_map_new(base: u64, size: u64) -> *mut dvs_range_map {
-        Handle::new(RangeMap::new(Global, base, size)?)
+    fn from(ValuedRange { range, value }: ValuedRange) -> Self {
+        let range = range.into();
+        dvs_valued_range { range, value }
     }
 }
 
 object_calls! { dvs_range_map: dvs_range_map_destroy, dvs_range_map_copy, dvs_range_map_equal }
 
 calls! {
-    with_request dvs_range_map_allocate(map: dvs_range_map, value: u64; request)
+    takes dvs_range_map_new(base: u64, size: u64) -> made: *mut dvs_range_map {
+        Handle::new(RangeMap::new(Global, base, size)?)?
+    }
+    changes dvs_range_map_allocate(map: In<dvs_range_map>, value: u64; request)
         -> range: dvs_range [refusal] {
         let allocated = map.allocate_constraint(Global, request, value);
-        answered(allocated, refusal.is_some(), || {
-            in_the_way(request, map.addresses().conflict(request))
-        })
+        let details = || in_the_way(request, map.addresses().conflict(request));
+        answered(allocated, refusal.is_some(), details)?
     }
-    with_request dvs_range_map_move(map: dvs_range_map, range: dvs_range; request)
+    changes dvs_range_map_move(map: In<dvs_range_map>, range: dvs_range; request)
         -> moved: dvs_range [refusal] {
         let range = range.try_into()?;
         let moved = map.move_constraint(Global, &range, request);
-        answered(moved, refusal.is_some(), || {
-            in_the_way(request, map.addresses().move_conflict(&range, request))
-        })
+        let details = || in_the_way(request, map.addresses().move_conflict(&range, request));
+        answered(moved, refusal.is_some(), details)?
     }
-    with_mut dvs_range_map_free(map: dvs_range_map, range: dvs_range) -> value: u64 [refusal] {
-        Ok(map.free(&range.try_into()?)?)
+    changes dvs_range_map_free(map: In<dvs_range_map>, range: dvs_range) -> value: u64 [refusal] {
+        map.free(&range.try_into()?)?
     }
-    with_mut dvs_range_map_set(map: dvs_range_map, address: u64, value: u64) -> before: u64 {
-        found(map.set(address, value))
+    changes dvs_range_map_set(map: In<dvs_range_map>, address: u64, value: u64) -> before: u64 {
+        found(map.set(address, value))?
     }
-    with_ref dvs_range_map_get(map: dvs_range_map, address: u64) -> valued: dvs_valued_range {
-        found(map.get(address))
+    reads dvs_range_map_get(map: In<dvs_range_map>, address: u64) -> valued: dvs_valued_range {
+        found(map.get(address))?
     }
-    with_ref dvs_range_map_count(map: dvs_range_map) -> count: u64 {
-        Ok(map.addresses().held_count())
-    }
-    with_ref dvs_range_map_space(map: dvs_range_map) -> ends: dvs_range {
-        Ok(space_of(map.addresses()))
+    reads dvs_range_map_count(map: In<dvs_range_map>) -> count: u64 { map.addresses().held_count() }
+    reads dvs_range_map_space(map: In<dvs_range_map>) -> ends: dvs_range {
+        space_of(map.addresses())
     }
 }
 

@@ -5,21 +5,16 @@
 /// there are any.
 macro_rules! object_calls {
     ($handle:ident: $destroy:ident, $copy:ident, $equal:ident) => {
-        /// # Safety
-        ///
-        /// The object is null or from a call that creates one, and is not used after `DVS_OK`.
-        #[unsafe(no_mangle)]
-        pub unsafe extern "C" fn $destroy(object: *mut $handle) -> $crate::dvs_status {
-            // SAFETY: the caller's contract.
-            $crate::status_of(unsafe { $crate::handle::Handle::destroy(object) }, None)
-        }
-
         $crate::objects::calls! {
-            with_ref $copy(object: $handle) -> copied: *mut $handle {
-                $crate::handle::Handle::new(object.try_clone($crate::rattle::Global)?)
+            takes $destroy(object: *mut $handle) {
+                // SAFETY: the object is null or from a call that creates one, and is not used after `DVS_OK`.
+                unsafe { $crate::handle::Handle::destroy(object) }?
             }
-            with_ref $equal(one: $handle, other: Option<&$handle>) -> are_equal: bool {
-                Ok(one == $crate::handle::non_null(other)?.get())
+            reads $copy(object: $crate::In<$handle>) -> copied: *mut $handle {
+                $crate::handle::Handle::new(object.try_clone($crate::rattle::Global)?)?
+            }
+            reads $equal(one: $crate::In<$handle>, other: $crate::In<$handle>) -> are_equal: bool {
+                one == $crate::handle::non_null(other)?.get()
             }
         }
     };
@@ -28,9 +23,9 @@ macro_rules! object_calls {
         $crate::objects::object_calls! { $handle: $destroy, $copy, $equal }
 
         $crate::objects::calls! {
-            with_ref $save(object: $handle, text: $crate::Out<*mut core::ffi::c_char>)
+            reads $save(object: $crate::In<$handle>, text: $crate::Out<*mut core::ffi::c_char>)
                 -> length: usize {
-                $crate::texts::save(text, || $saver(object))
+                $crate::texts::save(text, || $saver(object))?
             }
         }
 
@@ -55,9 +50,9 @@ macro_rules! object_calls {
             pub unsafe extern "C" fn $read_within(
                 text: *const core::ffi::c_char,
                 length: usize,
-                limits: Option<&$crate::json::dvs_text_limits>,
+                limits: $crate::In<$crate::json::dvs_text_limits>,
                 object: $crate::Out<*mut $handle>,
-                fault: $crate::Out<$crate::texts::dvs_text_fault>,
+                fault: $crate::Out<$crate::json::dvs_text_fault>,
             ) -> $crate::dvs_status {
                 // SAFETY: the caller's contract.
                 unsafe { $crate::texts::read(text, length, limits, object, fault, $reader) }
@@ -66,40 +61,50 @@ macro_rules! object_calls {
     };
 }
 
-/// Defines calls on an object, each with the function that makes it, the arguments, a request, the
-/// result, the details of an error, and a block for the result.
-macro_rules! calls {
-    ($($by:ident $name:ident($object:ident: $handle:ident
-        $(, $argument:ident: $type:ty)* $(; $request:ident)?)
-        $(-> $result:ident: $written:ty)? $([$refusal:ident])? $answer:block)+) => {$(
-        #[unsafe(no_mangle)]
-        pub extern "C" fn $name(
-            object: Option<&$handle>,
-            $($argument: $type,)*
-            $($request: Option<&$crate::requests::dvs_request>,)?
-            $($result: $crate::Out<$written>,)?
-            $($refusal: $crate::Out<$crate::dvs_refusal>,)?
-        ) -> $crate::dvs_status {
-            let made = $crate::handle::$by(object, $($request,)? $($result,)?
-                |$object $(, $request)?| $answer);
-            $crate::status_of(made, None$(.or($refusal))?)
-        }
-    )+};
+/// Returns the first argument of a call, or the object that it points to, if the call reads or changes one.
+macro_rules! argument {
+    (reads $object:ident) => {
+        $crate::handle::non_null($object)?.get()
+    };
+    (changes $object:ident) => {
+        $crate::handle::non_null($object)?.get_mut()?
+    };
+    (takes $value:ident) => {
+        $value
+    };
 }
 
-/// Defines calls without an object, which write a result.
-macro_rules! functions {
-    ($($name:ident($($argument:ident: $type:ty),+) -> $result:ty $([$refusal:ident])? {
-        $answer:expr
-    })+) => {$(
+/// Defines calls. A call has what it does with its first argument, its arguments, a request and its result.
+/// It can also write the index of the member that failed of an array, and the details of an error. The block
+/// returns the result.
+macro_rules! calls {
+    ($($does:ident $name:ident($first:ident: $first_type:ty
+        $(, $argument:ident: $type:ty)* $(; $request:ident)?)
+        $(-> $result:ident: $written:ty)? $(, $failed:ident of $length:ident)? $([$refusal:ident])?
+        $answer:block)+) => {$(
+        /// # Safety
+        ///
+        /// The arguments are as the header requires.
         #[unsafe(no_mangle)]
-        pub extern "C" fn $name(
-            $($argument: $type,)+
-            result: $crate::Out<$result>,
+        pub unsafe extern "C" fn $name(
+            $first: $first_type,
+            $($argument: $type,)*
+            $($request: $crate::In<$crate::requests::dvs_request>,)?
+            $($result: $crate::Out<$written>,)?
+            $($failed: $crate::Out<usize>,)?
             $($refusal: $crate::Out<$crate::dvs_refusal>,)?
         ) -> $crate::dvs_status {
-            let made = $crate::handle::with_out(result, || $answer);
-            $crate::status_of(made, None$(.or($refusal))?)
+            let call = || -> Result<(), $crate::CallError> {
+                $(let $request = $crate::handle::non_null($request)?;)?
+                $(let $result = $crate::handle::non_null($result)?;)?
+                let $first = $crate::objects::argument!($does $first);
+                $(let $request = $request.constraint()?;)?
+                $crate::handle::write($answer, None$(.or(Some($result)))?);
+                Ok(())
+            };
+            let answer = call();
+            $($crate::lists::write_failed(&answer, $length, $failed);)?
+            $crate::status_of(answer, None$(.or($refusal))?)
         }
     )+};
 }
@@ -108,20 +113,17 @@ macro_rules! functions {
 /// `[refusal]` also writes the details of an error there.
 macro_rules! visits {
     ($($name:ident($object:ident: $handle:ident $(, $argument:ident: $type:ty)*) by $visitor:ident
-        $([$refusal:ident])? { $items:expr })+) => {$(
-        #[unsafe(no_mangle)]
-        pub extern "C" fn $name(
-            object: Option<&$handle>,
-            $($argument: $type,)*
-            visitor: Option<$visitor>,
-            context: *mut core::ffi::c_void,
-            $($refusal: $crate::Out<$crate::dvs_refusal>,)?
-        ) -> $crate::dvs_status {
-            let visitor = visitor.map(|visitor| move |item| visitor(context, Into::into(item)));
-            let visited = $crate::handle::visit(object, |$object| Ok($items), visitor);
-            $crate::status_of(visited, None$(.or($refusal))?)
-        }
-    )+};
+        $([$refusal:ident])? { $items:expr })+) => {
+        $crate::objects::calls! {$(
+            takes $name(
+                object: $crate::In<$handle> $(, $argument: $type)*,
+                visitor: Option<$visitor>, context: *mut core::ffi::c_void
+            ) $([$refusal])? {
+                let visitor = visitor.map(|visitor| move |item| visitor(context, Into::into(item)));
+                $crate::handle::visit(object, |$object| Ok($items), visitor)?
+            }
+        )+}
+    };
 }
 
-pub(crate) use {calls, functions, object_calls, visits};
+pub(crate) use {argument, calls, object_calls, visits};

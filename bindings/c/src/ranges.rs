@@ -2,14 +2,14 @@
 //! The address allocator.
 
 use crate::handle::{found, Handle};
-use crate::objects::{calls, functions, object_calls, visits};
+use crate::objects::{calls, object_calls, visits};
 use crate::proved::vm_addresses::{
     AddressAllocator, AllocPolicy, Constraint, RangeInclusive, Result as Answer,
 };
 use crate::rattle::Global;
-use crate::requests::{answered, conflict, dvs_request, in_the_way};
+use crate::requests::{answered, in_the_way};
 use crate::texts::{read_space, save_space};
-use crate::{dvs_range, dvs_refusal, CallError};
+use crate::{dvs_range, dvs_refusal, CallError, In};
 use core::ffi::{c_int, c_void};
 
 /// An address allocator behind a C pointer.
@@ -20,10 +20,8 @@ pub type dvs_range_visitor = extern "C-unwind" fn(context: *mut c_void, range: d
 
 /// Returns the range from the first to the last address of the space.
 pub(crate) fn space_of(allocator: &AddressAllocator) -> dvs_range {
-    dvs_range {
-        start: allocator.base(),
-        end: allocator.end(),
-    }
+    let (start, end) = (allocator.base(), allocator.end());
+    dvs_range { start, end }
 }
 
 #[inline(always)]
@@ -33,9 +31,8 @@ fn allocate(
     wants_details: bool,
 ) -> Result<dvs_range, CallError> {
     let allocated = space.allocate_constraint(Global, request);
-    answered(allocated, wants_details, || {
-        in_the_way(request, space.conflict(request))
-    })
+    let details = || in_the_way(request, space.conflict(request));
+    answered(allocated, wants_details, details)
 }
 
 fn move_by(
@@ -45,9 +42,8 @@ fn move_by(
     wants_details: bool,
 ) -> Result<dvs_range, CallError> {
     let moved = space.move_constraint(Global, range, request);
-    answered(moved, wants_details, || {
-        in_the_way(request, space.move_conflict(range, request))
-    })
+    let details = || in_the_way(request, space.move_conflict(range, request));
+    answered(moved, wants_details, details)
 }
 
 /// Returns the part of the space that begins at `address`, or one address outside the space if there is
@@ -84,18 +80,6 @@ visits! {
     }
 }
 
-functions! {
-    dvs_address_allocator_new(base: u64, size: u64) -> *mut dvs_address_allocator {
-        Handle::new(AddressAllocator::new(Global, base, size)?)
-    }
-    dvs_range_from_start_length(start: u64, length: u64) -> dvs_range {
-        Ok(RangeInclusive::from_start_len(start, length)?.into())
-    }
-    dvs_range_offset_of(range: dvs_range, address: u64) -> u64 {
-        found(RangeInclusive::try_from(range)?.offset_of(address))
-    }
-}
-
 object_calls! {
     dvs_address_allocator: dvs_address_allocator_destroy, dvs_address_allocator_copy,
         dvs_address_allocator_equal, dvs_address_allocator_save by save_space,
@@ -106,62 +90,66 @@ object_calls! {
 }
 
 calls! {
-    with_mut dvs_range_allocate_first(space: dvs_address_allocator, size: u64, alignment: u64)
+    takes dvs_address_allocator_new(base: u64, size: u64) -> made: *mut dvs_address_allocator {
+        Handle::new(AddressAllocator::new(Global, base, size)?)?
+    }
+    takes dvs_range_from_start_length(start: u64, length: u64) -> range: dvs_range {
+        RangeInclusive::from_start_len(start, length)?.into()
+    }
+    takes dvs_range_offset_of(range: dvs_range, address: u64) -> offset: u64 {
+        found(RangeInclusive::try_from(range)?.offset_of(address))?
+    }
+    changes dvs_range_allocate_first(space: In<dvs_address_allocator>, size: u64, alignment: u64)
         -> range: dvs_range [refusal] {
         let request = Constraint::new(size, alignment, AllocPolicy::FirstMatch)?;
-        allocate(space, request, refusal.is_some())
+        allocate(space, request, refusal.is_some())?
     }
-    with_mut dvs_range_allocate_last(space: dvs_address_allocator, size: u64, alignment: u64)
+    changes dvs_range_allocate_last(space: In<dvs_address_allocator>, size: u64, alignment: u64)
         -> range: dvs_range [refusal] {
         let request = Constraint::new(size, alignment, AllocPolicy::LastMatch)?;
-        allocate(space, request, refusal.is_some())
+        allocate(space, request, refusal.is_some())?
     }
-    with_mut dvs_range_allocate_exact(
-        space: dvs_address_allocator, size: u64, alignment: u64, start: u64
+    changes dvs_range_allocate_exact(
+        space: In<dvs_address_allocator>, size: u64, alignment: u64, start: u64
     ) -> range: dvs_range [refusal] {
         let request = Constraint::new(size, alignment, AllocPolicy::ExactMatch(start))?;
-        allocate(space, request, refusal.is_some())
+        allocate(space, request, refusal.is_some())?
     }
-    with_mut dvs_range_move(space: dvs_address_allocator, range: dvs_range, start: u64)
+    changes dvs_range_move(space: In<dvs_address_allocator>, range: dvs_range, start: u64)
         -> moved: dvs_range [refusal] {
         let range = RangeInclusive::try_from(range)?;
         let request = Constraint::new(range.len(), 1, AllocPolicy::ExactMatch(start))?;
-        move_by(space, &range, request, refusal.is_some())
+        move_by(space, &range, request, refusal.is_some())?
     }
-    with_ref dvs_range_is_allocated(space: dvs_address_allocator, range: dvs_range)
+    reads dvs_range_is_allocated(space: In<dvs_address_allocator>, range: dvs_range)
         -> is_allocated: bool [refusal] {
-        Ok(space.holds(&range.try_into()?))
+        space.holds(&range.try_into()?)
     }
-    with_ref dvs_range_at(space: dvs_address_allocator, address: u64) -> range: dvs_range {
-        found(space.held_at(address))
+    reads dvs_range_at(space: In<dvs_address_allocator>, address: u64) -> range: dvs_range {
+        found(space.held_at(address))?
     }
-    with_ref dvs_gap_at(space: dvs_address_allocator, address: u64) -> gap: dvs_range {
-        found(space.gap_at(address))
+    reads dvs_gap_at(space: In<dvs_address_allocator>, address: u64) -> gap: dvs_range {
+        found(space.gap_at(address))?
     }
-    with_ref dvs_address_allocator_space(space: dvs_address_allocator) -> ends: dvs_range {
-        Ok(space_of(space))
+    reads dvs_address_allocator_space(space: In<dvs_address_allocator>) -> ends: dvs_range {
+        space_of(space)
     }
-    with_ref dvs_range_count(space: dvs_address_allocator) -> count: u64 { Ok(space.held_count()) }
-    with_ref dvs_gap_count(space: dvs_address_allocator) -> count: u64 { Ok(space.gap_count()) }
-    with_ref dvs_longest_gap(space: dvs_address_allocator) -> length: u64 {
-        Ok(space.longest_gap())
+    reads dvs_range_count(space: In<dvs_address_allocator>) -> count: u64 { space.held_count() }
+    reads dvs_gap_count(space: In<dvs_address_allocator>) -> count: u64 { space.gap_count() }
+    reads dvs_longest_gap(space: In<dvs_address_allocator>) -> length: u64 { space.longest_gap() }
+    reads dvs_free_length(space: In<dvs_address_allocator>) -> length: u64 { space.free_len() }
+    changes dvs_range_free(space: In<dvs_address_allocator>, range: dvs_range) [refusal] {
+        space.free(&range.try_into()?)?
     }
-    with_ref dvs_free_length(space: dvs_address_allocator) -> length: u64 {
-        Ok(space.free_len())
-    }
-    with_mut_unit dvs_range_free(space: dvs_address_allocator, range: dvs_range) [refusal] {
-        Ok(space.free(&range.try_into()?)?)
-    }
-    with_request dvs_range_allocate(space: dvs_address_allocator; request)
+    changes dvs_range_allocate(space: In<dvs_address_allocator>; request)
         -> range: dvs_range [refusal] {
-        allocate(space, request, refusal.is_some())
+        allocate(space, request, refusal.is_some())?
     }
-    with_request dvs_range_move_request(space: dvs_address_allocator, range: dvs_range; request)
+    changes dvs_range_move_request(space: In<dvs_address_allocator>, range: dvs_range; request)
         -> moved: dvs_range [refusal] {
-        move_by(space, &range.try_into()?, request, refusal.is_some())
+        move_by(space, &range.try_into()?, request, refusal.is_some())?
     }
-    with_ref dvs_range_conflict(space: dvs_address_allocator, request: Option<&dvs_request>)
-        -> found: dvs_refusal {
-        conflict(space, request)
+    reads dvs_range_conflict(space: In<dvs_address_allocator>; request) -> found: dvs_refusal {
+        in_the_way(request, space.conflict(request)).unwrap_or_default()
     }
 }

@@ -1,9 +1,8 @@
 // SPDX-License-Identifier: Apache-2.0 OR BSD-3-Clause
 //! Requests for a range.
 
-use crate::handle::non_null;
 use crate::proved::vm_addresses::{
-    AddressAllocator, AllocPolicy, Conflict, Constraint, Error, RangeInclusive, Result as Answer,
+    AllocPolicy, Conflict, Constraint, Error, RangeInclusive, Result as Answer,
 };
 use crate::status::{
     DVS_CAUSE_ALLOCATED, DVS_CAUSE_OUTSIDE_SPACE, DVS_CAUSE_OUTSIDE_WINDOW, DVS_INVALID_POLICY,
@@ -20,7 +19,7 @@ const DVS_EXACT: u32 = 2;
 pub struct dvs_request<'a> {
     size: u64,
     alignment: u64,
-    pub(crate) start: u64,
+    start: u64,
     policy: u32,
     window: Option<&'a dvs_range>,
 }
@@ -103,13 +102,4 @@ pub(crate) fn because_of(cause: u32, request: Constraint, other: dvs_range) -> d
         cause,
         ..dvs_refusal::default()
     }
-}
-
-/// Returns the conflict of a request with a space.
-pub(crate) fn conflict(
-    space: &AddressAllocator,
-    request: Option<&dvs_request>,
-) -> Result<dvs_refusal, CallError> {
-    let request = non_null(request)?.constraint()?;
-    Ok(in_the_way(request, space.conflict(request)).unwrap_or_default())
 }

@@ -67,16 +67,30 @@ pub struct dvs_refusal {
     pub(crate) cause: u32,
 }
 
-/// The status of a call that failed, and its details.
-pub(crate) struct CallError {
+/// The status of a call that failed, and its details for the caller.
+pub(crate) struct Failure<D> {
     pub(crate) status: dvs_status,
-    pub(crate) details: dvs_refusal,
+    pub(crate) details: D,
+    /// The index of the member of an array that failed.
+    pub(crate) index: Option<usize>,
+}
+
+/// The error of a call on objects.
+pub(crate) type CallError = Failure<dvs_refusal>;
+
+impl<D> Failure<D> {
+    pub(crate) fn new(status: dvs_status, details: D) -> Self {
+        Failure {
+            status,
+            details,
+            index: None,
+        }
+    }
 }
 
 impl From<dvs_status> for CallError {
     fn from(status: dvs_status) -> Self {
-        let details = dvs_refusal::default();
-        CallError { status, details }
+        CallError::new(status, dvs_refusal::default())
     }
 }
 
@@ -93,7 +107,12 @@ impl From<Error> for CallError {
     fn from(error: Error) -> Self {
         let none = dvs_refusal::default();
         let of_id = |id| dvs_refusal { id, ..none };
-        let of_range = |range| dvs_refusal { range, ..none };
+        let of_ranges = |range, other| dvs_refusal {
+            range,
+            other,
+            ..none
+        };
+        let of_range = |range| of_ranges(range, none.other);
         let (status, details) = match error {
             Error::Overflow => (DVS_OVERFLOW, none),
             Error::OutOfRange(id) => (DVS_OUT_OF_RANGE, of_id(id)),
@@ -104,17 +123,7 @@ impl From<Error> for CallError {
                 (DVS_INVALID_RANGE, of_range(dvs_range { start, end }))
             }
             Error::InvalidAlignment => (DVS_INVALID_ALIGNMENT, none),
-            Error::Overlap(range, other) => {
-                let (range, other) = (range.into(), other.into());
-                (
-                    DVS_OVERLAP,
-                    dvs_refusal {
-                        range,
-                        other,
-                        ..none
-                    },
-                )
-            }
+            Error::Overlap(range, other) => (DVS_OVERLAP, of_ranges(range.into(), other.into())),
             Error::InvalidStateTransition(range, _) => {
                 (DVS_INVALID_STATE_TRANSITION, of_range(range.into()))
             }
@@ -123,7 +132,7 @@ impl From<Error> for CallError {
             Error::InvalidSize(size) => (DVS_INVALID_SIZE, dvs_refusal { size, ..none }),
             Error::OutOfMemory => (DVS_OUT_OF_MEMORY, none),
         };
-        CallError { status, details }
+        CallError::new(status, details)
     }
 }
 
@@ -137,21 +146,21 @@ pub(crate) fn refused_id(error: Error, id: u32) -> CallError {
     refused
 }
 
-/// Returns the status of a result. If it is an error, also writes its details to `refusal`.
+/// Returns the status of a result. If it is an error, also writes its details to `out`.
 #[inline(always)]
-pub(crate) fn status_of(answer: Result<(), CallError>, refusal: Out<dvs_refusal>) -> dvs_status {
+pub(crate) fn status_of<D: Copy>(answer: Result<(), Failure<D>>, out: Out<D>) -> dvs_status {
     match answer {
         Ok(()) => DVS_OK,
-        Err(refused) => report(&refused, refusal),
+        Err(failure) => report(&failure, out),
     }
 }
 
 #[cold]
-fn report(refused: &CallError, refusal: Out<dvs_refusal>) -> dvs_status {
-    if let Some(refusal) = refusal {
-        refusal.write(refused.details);
+fn report<D: Copy>(failure: &Failure<D>, out: Out<D>) -> dvs_status {
+    if let Some(out) = out {
+        out.write(failure.details);
     }
-    refused.status
+    failure.status
 }
 
 /// Returns the row of a number, which is from C, so it can be any.

@@ -2,26 +2,22 @@
 //! Saving objects as JSON, and reading them.
 
 use crate::handle::{non_null, Handle};
-use crate::json::{dvs_text_limits, Read, Reader, TextFault};
+use crate::json::{dvs_text_fault, dvs_text_limits, Read, Reader, TextFault};
 use crate::proved::vm_addresses::{
-    AddressAllocator, Error, RangeInclusive, ReadNodes, SavedError, Side, WrittenTree,
+    AddressAllocator, RangeInclusive, ReadNodes, SavedError, Side, WrittenTree,
 };
 use crate::proved::vm_devices::{DeviceManager, DeviceSlot, ReadDevices};
 use crate::proved::vm_ids::{IdAllocator, ReadIds};
 use crate::proved::vm_ranges::NodeState;
-use crate::rattle::Global;
+use crate::rattle::{self, Global};
 use crate::status::{
-    dvs_status, dvs_status_text, DVS_LIMIT_EXCEEDED, DVS_NOT_A_STATE, DVS_NOT_JSON, DVS_NULL,
-    DVS_OK, DVS_OUT_OF_MEMORY,
+    DVS_LIMIT_EXCEEDED, DVS_NOT_A_STATE, DVS_NOT_JSON, DVS_NULL, DVS_OUT_OF_MEMORY,
 };
-use crate::{CallError, Out};
+use crate::{dvs_status, status_of, CallError, Out};
 use alloc::ffi::CString;
 use alloc::vec::Vec;
-use core::ffi::{c_char, CStr};
-use core::{ptr, slice, str};
-
-/// The states of a node, at the index of each.
-const STATES: [&CStr; 2] = [c"Free", c"Allocated"];
+use core::ffi::c_char;
+use core::{slice, str};
 
 // ---- Writing
 
@@ -32,24 +28,20 @@ pub(crate) trait Sink {
 }
 
 /// Counts the bytes of a text.
-struct TextLength(usize);
-
-impl Sink for TextLength {
+impl Sink for usize {
     fn text(&mut self, text: &str) {
-        self.0 += text.len();
+        *self += text.len();
     }
 
     fn number(&mut self, number: u64) {
-        self.0 += number.checked_ilog10().unwrap_or(0) as usize + 1;
+        *self += number.checked_ilog10().unwrap_or(0) as usize + 1;
     }
 }
 
-/// A text in a buffer with the capacity for it.
-struct TextBuffer(Vec<u8>);
-
-impl Sink for TextBuffer {
+/// Appends a text. There is memory for it.
+impl Sink for Vec<u8> {
     fn text(&mut self, text: &str) {
-        self.0.extend_from_slice(text.as_bytes());
+        self.extend_from_slice(text.as_bytes());
     }
 
     fn number(&mut self, mut number: u64) {
@@ -61,7 +53,7 @@ impl Sink for TextBuffer {
             first -= 1;
         }
         digits[first] += number as u8;
-        self.0.extend_from_slice(&digits[first..]);
+        self.extend_from_slice(&digits[first..]);
     }
 }
 
@@ -117,6 +109,7 @@ impl Json for NodeState {
 }
 
 impl<T: Json> Json for Option<T> {
+    #[inline(always)]
     fn write(&self, to: &mut impl Sink) {
         match self {
             Some(value) => value.write(to),
@@ -153,14 +146,12 @@ pub(crate) fn save_devices(manager: &DeviceManager) -> Result<CString, CallError
 
 /// Returns the text of a value. It is counted first, so that it is allocated once.
 pub(crate) fn text_of(value: &impl Json) -> Result<CString, CallError> {
-    let mut counted = TextLength(0);
-    value.write(&mut counted);
-    let mut written = TextBuffer(Vec::new());
-    let allocated = written.0.try_reserve_exact(counted.0 + 1);
-    allocated.map_err(|_| Error::OutOfMemory)?;
-    value.write(&mut written);
-    written.0.push(0);
-    Ok(CString::from_vec_with_nul(written.0).expect("JSON contains no zero byte"))
+    let mut length = 0;
+    value.write(&mut length);
+    let mut text = Vec::from(rattle::Vec::with_capacity(Global, length + 1)?);
+    value.write(&mut text);
+    text.push(0);
+    Ok(CString::from_vec_with_nul(text).expect("JSON contains no zero byte"))
 }
 
 /// Writes the text of a saved object to `text`, and returns its length.
@@ -176,14 +167,6 @@ pub(crate) fn save(
 
 // ---- Reading
 
-/// The reason why a text was not read, and the place of it.
-#[repr(C)]
-pub struct dvs_text_fault {
-    offset: usize,
-    reason: *const c_char,
-    field: *const c_char,
-}
-
 /// Creates the object that a text encodes, and writes its pointer to `out`. `read` reads the parts
 /// of the object.
 ///
@@ -198,35 +181,15 @@ pub(crate) unsafe fn read<T>(
     fault: Out<dvs_text_fault>,
     read: fn(&mut Reader<'_>) -> Read<T>,
 ) -> dvs_status {
-    let make = || {
-        let out = out.ok_or(DVS_NULL)?;
-        let limits = limits.copied().unwrap_or_default();
+    let make = || -> Read<()> {
+        let (out, limits) = (non_null(out)?, limits.copied().unwrap_or_default());
         // SAFETY: the caller's contract.
         let text = unsafe { text_from(text, length, limits) }?;
         let made = Handle::new(read_all(text, limits, read)?);
         out.write(made.map_err(|_| DVS_OUT_OF_MEMORY)?);
         Ok(())
     };
-    match make() {
-        Ok(()) => DVS_OK,
-        Err(found) => report(&found, fault),
-    }
-}
-
-#[cold]
-fn report(found: &TextFault, fault: Out<dvs_text_fault>) -> dvs_status {
-    if let Some(fault) = fault {
-        let is_json = found.status == DVS_NOT_A_STATE;
-        let field = found.field.filter(|_| is_json);
-        fault.write(dvs_text_fault {
-            offset: found.offset,
-            reason: found
-                .reason
-                .map_or_else(|| dvs_status_text(found.status), CStr::as_ptr),
-            field: field.map_or(ptr::null(), CStr::as_ptr),
-        });
-    }
-    found.status
+    status_of(make(), fault)
 }
 
 /// Returns the text of a caller.
@@ -243,21 +206,17 @@ unsafe fn text_from<'a>(
         return Err(DVS_NULL.into());
     }
     if limits.length > 0 && length > limits.length {
-        return Err(TextFault {
-            offset: limits.length,
-            reason: Some(c"the text is too long"),
-            ..DVS_LIMIT_EXCEEDED.into()
-        });
+        let reason = c"the text is too long".as_ptr();
+        return Err(TextFault::of(DVS_LIMIT_EXCEEDED, limits.length, reason));
     }
     if isize::try_from(length).is_err() {
         return Err(DVS_NOT_JSON.into());
     }
     // SAFETY: `length` bytes are readable, and `length` is at most `isize::MAX`.
     let bytes = unsafe { slice::from_raw_parts(text.cast::<u8>(), length) };
-    str::from_utf8(bytes).map_err(|error| TextFault {
-        offset: error.valid_up_to(),
-        reason: Some(c"the text is not UTF-8"),
-        ..DVS_NOT_JSON.into()
+    str::from_utf8(bytes).map_err(|error| {
+        let reason = c"the text is not UTF-8".as_ptr();
+        TextFault::of(DVS_NOT_JSON, error.valid_up_to(), reason)
     })
 }
 
@@ -268,10 +227,9 @@ fn read_all<T>(
     limits: dvs_text_limits,
     read: fn(&mut Reader<'_>) -> Read<T>,
 ) -> Read<T> {
-    let mut reader = Reader::new(text, limits);
-    let object = read(&mut reader).and_then(|object| reader.end().map(|()| object));
+    let object = Reader::read(text, limits, read);
     if matches!(&object, Err(fault) if fault.status == DVS_NOT_A_STATE) {
-        Reader::new(text, limits).check()?;
+        Reader::read(text, limits, Reader::check_value)?;
     }
     object
 }
@@ -279,11 +237,15 @@ fn read_all<T>(
 fn read_range(from: &mut Reader<'_>) -> Read<RangeInclusive> {
     let (start, mut ends) = (from.start(), [0; 2]);
     from.object([c"start", c"end"], |from, at| {
-        ends[at] = from.whole(u64::MAX)?;
-        Ok(())
+        from.whole(u64::MAX).map(|end| ends[at] = end)
     })?;
     let range = RangeInclusive::new(ends[0], ends[1]);
     range.map_err(|_| from.not_a_state(c"the range is not valid").at(start))
+}
+
+fn read_state(from: &mut Reader<'_>) -> Read<NodeState> {
+    let place = from.one_of(&[c"Free", c"Allocated"])?;
+    Ok([NodeState::Free, NodeState::Allocated][place])
 }
 
 /// Reads a node, with all nodes below it, as the child on this side of the node around it.
@@ -294,15 +256,12 @@ fn read_subtree(from: &mut Reader<'_>, nodes: &mut ReadNodes, side: Side) -> Rea
     nodes.begin().map_err(|error| from.of_parts(error, &[]))?;
     let (mut key, mut state, mut height) = (None, NodeState::Free, 0);
     let names = [c"key", c"node_state", c"left", c"right", c"height"];
-    let fields = from.object(names, |from, at| {
-        match at {
-            0 => key = Some(read_range(from)?),
-            1 => state = [NodeState::Free, NodeState::Allocated][from.one_of(&STATES)?],
-            2 => read_subtree(from, nodes, Side::Left)?,
-            3 => read_subtree(from, nodes, Side::Right)?,
-            _ => height = from.whole(u64::MAX)?,
-        }
-        Ok(())
+    let fields = from.object(names, |from, at| match at {
+        0 => read_range(from).map(|range| key = Some(range)),
+        1 => read_state(from).map(|read| state = read),
+        2 => read_subtree(from, nodes, Side::Left),
+        3 => read_subtree(from, nodes, Side::Right),
+        _ => from.whole(u64::MAX).map(|number| height = number),
     })?;
     let ended = nodes.end(side, from.some(key)?, state, height);
     ended.map_err(|error| from.of_parts(error, &fields))
@@ -314,16 +273,14 @@ pub(crate) fn read_space(
     made: impl FnOnce(Global, RangeInclusive, &ReadNodes) -> Result<AddressAllocator, SavedError>,
 ) -> Read<AddressAllocator> {
     let (mut nodes, mut space, mut tree) = (ReadNodes::new(Global), None, [(None, 0)]);
-    from.object([c"address_space", c"interval_tree"], |from, at| {
-        if at == 0 {
-            space = Some(read_range(from)?);
-        } else {
-            // The root ends as a left child.
-            tree = from.object([c"root"], |from, _| {
-                read_subtree(from, &mut nodes, Side::Left)
-            })?;
-        }
-        Ok(())
+    // The root ends as a left child.
+    let mut root = |from: &mut Reader<'_>, _| read_subtree(from, &mut nodes, Side::Left);
+    let names = [c"address_space", c"interval_tree"];
+    from.object(names, |from, at| match at {
+        0 => read_range(from).map(|range| space = Some(range)),
+        _ => from
+            .object([c"root"], &mut root)
+            .map(|fields| tree = fields),
     })?;
     let made = made(Global, from.some(space)?, &nodes);
     made.map_err(|error| from.of_parts(error, &tree))
@@ -336,18 +293,11 @@ fn read_id(from: &mut Reader<'_>) -> Read<u32> {
 pub(crate) fn read_ids(from: &mut Reader<'_>) -> Read<IdAllocator> {
     let (mut ends, mut next, mut freed) = ([0; 2], None, ReadIds::new(Global));
     let names = [c"range_base", c"range_end", c"next_id", c"freed_ids"];
-    let fields = from.object(names, |from, at| {
-        match at {
-            0 | 1 => ends[at] = read_id(from)?,
-            2 if from.skip_null()? => {}
-            2 => next = Some(read_id(from)?),
-            _ => from.list(|from| {
-                let item = [(None, from.start())];
-                let pushed = freed.push(read_id(from)?);
-                pushed.map_err(|error| from.of_parts(error, &item))
-            })?,
-        }
-        Ok(())
+    let fields = from.object(names, |from, at| match at {
+        0 | 1 => read_id(from).map(|id| ends[at] = id),
+        2 if from.skip_null()? => Ok(()),
+        2 => read_id(from).map(|id| next = Some(id)),
+        _ => from.list(read_id, |id| freed.push(id)),
     })?;
     let made = IdAllocator::from_ids(ends[0], next, ends[1], freed);
     made.map_err(|error| from.of_parts(error, &fields))
@@ -355,12 +305,9 @@ pub(crate) fn read_ids(from: &mut Reader<'_>) -> Read<IdAllocator> {
 
 fn read_slot(from: &mut Reader<'_>) -> Read<DeviceSlot> {
     let (mut id, mut range) = (0, None);
-    from.object([c"id", c"mmio_range"], |from, at| {
-        match at {
-            0 => id = read_id(from)?,
-            _ => range = Some(read_range(from)?),
-        }
-        Ok(())
+    from.object([c"id", c"mmio_range"], |from, at| match at {
+        0 => read_id(from).map(|read| id = read),
+        _ => read_range(from).map(|read| range = Some(read)),
     })?;
     let range = from.some(range)?;
     Ok(DeviceSlot { id, range })
@@ -370,18 +317,11 @@ pub(crate) fn read_devices(from: &mut Reader<'_>) -> Read<DeviceManager> {
     let (mut version, mut ids, mut space) = (0, None, None);
     let mut slots = ReadDevices::new(Global);
     let names = [c"version", c"id_allocator", c"mmio_allocator", c"slots"];
-    let fields = from.object(names, |from, at| {
-        match at {
-            0 => version = from.whole(u64::MAX)?,
-            1 => ids = Some(read_ids(from)?),
-            2 => space = Some(read_space(from, AddressAllocator::from_nodes)?),
-            _ => from.list(|from| {
-                let item = [(None, from.start())];
-                let pushed = slots.push(read_slot(from)?);
-                pushed.map_err(|error| from.of_parts(error, &item))
-            })?,
-        }
-        Ok(())
+    let fields = from.object(names, |from, at| match at {
+        0 => from.whole(u64::MAX).map(|number| version = number),
+        1 => read_ids(from).map(|read| ids = Some(read)),
+        2 => read_space(from, AddressAllocator::from_nodes).map(|read| space = Some(read)),
+        _ => from.list(read_slot, |slot| slots.push(slot)),
     })?;
     let (ids, space) = (from.some(ids)?, from.some(space)?);
     let made = DeviceManager::from_devices(Global, version, ids, space, &slots);

@@ -166,9 +166,8 @@ fn parse(rest: &mut &str, levels: u32) -> Result<Value, NotJson> {
             skip(rest, ":")?;
             Ok((name, parse(rest, levels)?))
         })
-        .map(Value::from),
-        Some(b'[') => parse_list(rest, "]", |rest| parse(rest, levels))
-            .map(|items| Value::Array(items.into())),
+        .map(|fields| Value::from(Fields::from(fields))),
+        Some(b'[') => parse_list(rest, "]", |rest| parse(rest, levels)).map(Value::Array),
         Some(b'"') => parse_text(rest).map(Value::String),
         Some(b'n') => skip(rest, "null").map(|()| Value::Null),
         Some(b't') => skip(rest, "true").map(|()| Value::Bool(true)),
@@ -188,14 +187,14 @@ fn parse_list<T>(
     rest: &mut &str,
     close: &str,
     item: impl Fn(&mut &str) -> Result<T, NotJson>,
-) -> Result<alloc::vec::Vec<T>, NotJson> {
-    let mut items = alloc::vec::Vec::new();
+) -> Result<Vec<T>, NotJson> {
+    let mut items = Vec::new(Global);
     *rest = &rest[1..];
     while skip(rest, close).is_err() {
         if !items.is_empty() {
             skip(rest, ",")?;
         }
-        items.push(item(rest)?);
+        items.push(item(rest)?).map_err(|_| NotJson)?;
     }
     Ok(items)
 }

@@ -1,13 +1,10 @@
 // SPDX-License-Identifier: Apache-2.0 OR BSD-3-Clause
-use crate::convert::{out_of_memory, unless_list_out_of_memory};
+use crate::convert::{list_error, out_of_memory};
 use crate::error::{ListResult, TryListResult, TryResult};
 use crate::proved::vm_addresses as proved;
-use crate::rattle::Global;
+use crate::rattle::{self, Global};
 use crate::traits::{allocator, iterate, twins, DebugList};
-use crate::{
-    AllocPolicy, Conflict, Constraint, Error, Layout, ListError, RangeInclusive, Result, TryError,
-    Window,
-};
+use crate::{AllocPolicy, Conflict, Constraint, Error, Layout, RangeInclusive, Result, Window};
 use alloc::vec::Vec;
 use core::fmt;
 
@@ -37,8 +34,6 @@ use core::fmt;
 /// # Ok::<(), Error>(())
 /// ```
 #[derive(PartialEq, Eq, PartialOrd, Ord)]
-#[cfg_attr(feature = "serde", derive(serde::Serialize, serde::Deserialize))]
-#[cfg_attr(feature = "serde", serde(transparent))]
 pub struct AddressAllocator(pub(crate) proved::AddressAllocator);
 
 impl AddressAllocator {
@@ -63,7 +58,7 @@ impl AddressAllocator {
         /// # Ok::<(), Error>(())
         /// ```
         pub fn new(base: u64, size: u64) -> Result<Self> {
-            proved::AddressAllocator::new(Global, base, size).map(Self)
+            Ok(Self(proved::AddressAllocator::new(Global, base, size)?))
         }
 
         /// Creates an allocator like [`new`](Self::new), but returns an error if memory runs out.
@@ -88,7 +83,7 @@ impl AddressAllocator {
         /// );
         /// # Ok::<(), TryError>(())
         /// ```
-        pub fn try_new;
+        pub fn try_new -> TryResult;
     }
 
     /// Creates an allocator for the addresses of a range, such as the window of a bridge. All of them
@@ -135,150 +130,150 @@ impl AddressAllocator {
         Self::try_new(space.start(), space.len())
     }
 
-    /// Creates an allocator for the `size` addresses starting at `base`, with these ranges
-    /// allocated. They must be in ascending order.
-    ///
-    /// The allocator is equal to one that allocated the ranges by `ExactMatch`. Its tree has
-    /// the minimum height. The time is linear in the number of ranges.
-    ///
-    /// # Errors
-    ///
-    /// In this order. Only the error of a range that cannot be allocated has an index.
-    /// - `Underflow` if `size` is 0.
-    /// - `Overflow` if the last address would be past `u64::MAX`.
-    /// - For the first range that cannot be allocated:
-    ///   - `ResourceNotAvailable` if it does not start after the end of the range before it.
-    ///   - `Overflow` if it starts at `u64::MAX`.
-    ///   - `ResourceNotAvailable` if it is outside the space.
-    ///   - `Overflow` if it ends at `u64::MAX`.
-    /// - `Overflow` if there are 2^49 or more ranges and gaps.
-    ///
-    /// # Example
-    ///
-    /// ```rust
-    /// use divsharun::{AddressAllocator, AllocPolicy, Error, ListError, RangeInclusive};
-    ///
-    /// let [low, high] = [(0x1000, 0x1fff), (0x3000, 0x3fff)]
-    ///     .map(|(start, end)| RangeInclusive::new(start, end).expect("a range"));
-    /// let mut ports = AddressAllocator::with_held(0, 0x4000, &[low, high])?;
-    /// assert!(ports.held_ranges().eq([low, high]));
-    ///
-    /// assert_eq!(ports.allocate(0x1000, 1, AllocPolicy::LastMatch)?.start(), 0x2000);
-    /// assert_eq!(
-    ///     AddressAllocator::with_held(0, 0x4000, &[high, low]),
-    ///     Err(ListError { index: Some(1), error: Error::ResourceNotAvailable })
-    /// );
-    /// # Ok::<(), Error>(())
-    /// ```
-    pub fn with_held(base: u64, size: u64, held: &[RangeInclusive]) -> ListResult<Self> {
-        unless_list_out_of_memory(Self::try_with_held(base, size, held))
-    }
-
-    /// Creates an allocator like [`with_held`](Self::with_held), but returns an error if
-    /// memory runs out.
-    ///
-    /// # Errors
-    ///
-    /// In this order:
-    /// - `OutOfMemory` without an index if memory for a copy of the list runs out.
-    /// - `Refused` with `Underflow`, `Overflow` or `ResourceNotAvailable`, if `with_held` returns
-    ///   that error, with the same index.
-    /// - `OutOfMemory` without an index if memory for a node runs out. The nodes built so far are
-    ///   freed.
-    ///
-    /// # Example
-    ///
-    /// ```rust
-    /// use divsharun::{AddressAllocator, Error, ListError, RangeInclusive, TryError};
-    ///
-    /// let held = [RangeInclusive::new(0x1000, 0x1fff)?];
-    /// assert_eq!(AddressAllocator::try_with_held(0, 0x4000, &held)?.held_count(), 1);
-    /// assert_eq!(
-    ///     AddressAllocator::try_with_held(0, 0x1800, &held),
-    ///     Err(ListError {
-    ///         index: Some(0),
-    ///         error: TryError::Refused(Error::ResourceNotAvailable),
-    ///     })
-    /// );
-    /// # Ok::<(), TryError>(())
-    /// ```
-    pub fn try_with_held(base: u64, size: u64, held: &[RangeInclusive]) -> TryListResult<Self> {
-        let ranges = converted(held, |range| range.0)?;
-        let made = proved::AddressAllocator::with_held(Global, base, size, &ranges);
-        made.map(AddressAllocator).map_err(Into::into)
-    }
-
-    /// Creates an allocator in which exactly these ranges are free. They must be in ascending order,
-    /// and share no address.
-    ///
-    /// The space is from the first address of the first range to the last address of the last one. Each
-    /// hole between the ranges is an allocated range, and can be freed. Ranges without a hole between
-    /// them are one gap. The tree has the minimum height. The time is linear in the number of ranges.
-    ///
-    /// # Errors
-    ///
-    /// In this order. Only the error of a range has an index.
-    /// - `Underflow` if there is no range.
-    /// - `ResourceNotAvailable` for the first range that does not start after the end of the range before
-    ///   it.
-    /// - `InvalidRange(0, u64::MAX)` if the space would have all 2^64 addresses.
-    /// - `Overflow` if there are 2^48 or more holes.
-    ///
-    /// # Example
-    ///
-    /// ```rust
-    /// use divsharun::{AddressAllocator, AllocPolicy, Error, ListError, RangeInclusive};
-    ///
-    /// // The windows of a host bridge.
-    /// let low = RangeInclusive::new(0xc000_0000, 0xfebf_ffff)?;
-    /// let high = RangeInclusive::new(0x1_0000_0000, 0x7f_ffff_ffff)?;
-    /// let mut mmio = AddressAllocator::with_free(&[low, high])?;
-    /// assert!(mmio.gaps().eq([low, high]));
-    ///
-    /// let bar = mmio.allocate(0x4000_0000, 0x4000_0000, AllocPolicy::FirstMatch)?;
-    /// assert_eq!(bar.start(), high.start());
-    /// assert_eq!(
-    ///     AddressAllocator::with_free(&[high, low]),
-    ///     Err(ListError { index: Some(1), error: Error::ResourceNotAvailable })
-    /// );
-    /// # Ok::<(), Error>(())
-    /// ```
-    pub fn with_free(free: &[RangeInclusive]) -> ListResult<Self> {
-        unless_list_out_of_memory(Self::try_with_free(free))
-    }
-
-    /// Creates an allocator like [`with_free`](Self::with_free), but returns an error if memory runs
-    /// out.
-    ///
-    /// # Errors
-    ///
-    /// In this order:
-    /// - `OutOfMemory` without an index if memory for a copy of the list runs out.
-    /// - `Refused` with `Underflow`, `ResourceNotAvailable`, `InvalidRange` or `Overflow`, if `with_free`
-    ///   returns that error, with the same index.
-    /// - `OutOfMemory` without an index if memory for the holes or for a node runs out.
-    ///
-    /// # Example
-    ///
-    /// ```rust
-    /// use divsharun::{AddressAllocator, Error, ListError, RangeInclusive, TryError};
-    ///
-    /// let [low, high] = [RangeInclusive::new(0, 0x2f7)?, RangeInclusive::new(0x300, 0x3f7)?];
-    /// let ports = AddressAllocator::try_with_free(&[low, high])?;
-    /// assert_eq!(ports.held_at(0x2f8).map(|hole| hole.to_string()), Some("2f8-2ff".to_string()));
-    /// assert_eq!(
-    ///     AddressAllocator::try_with_free(&[]),
-    ///     Err(ListError { index: None, error: TryError::Refused(Error::Underflow) })
-    /// );
-    /// # Ok::<(), TryError>(())
-    /// ```
-    pub fn try_with_free(free: &[RangeInclusive]) -> TryListResult<Self> {
-        let ranges = converted(free, |range| range.0)?;
-        let made = proved::AddressAllocator::with_free(Global, &ranges);
-        made.map(AddressAllocator).map_err(Into::into)
-    }
-
     twins! {
+        /// Creates an allocator for the `size` addresses starting at `base`, with these ranges
+        /// allocated. They must be in ascending order.
+        ///
+        /// The allocator is equal to one that allocated the ranges by `ExactMatch`. Its tree has
+        /// the minimum height. The time is linear in the number of ranges.
+        ///
+        /// # Errors
+        ///
+        /// In this order. Only the error of a range that cannot be allocated has an index.
+        /// - `Underflow` if `size` is 0.
+        /// - `Overflow` if the last address would be past `u64::MAX`.
+        /// - For the first range that cannot be allocated:
+        ///   - `ResourceNotAvailable` if it does not start after the end of the range before it.
+        ///   - `Overflow` if it starts at `u64::MAX`.
+        ///   - `ResourceNotAvailable` if it is outside the space.
+        ///   - `Overflow` if it ends at `u64::MAX`.
+        /// - `Overflow` if there are 2^49 or more ranges and gaps.
+        ///
+        /// # Example
+        ///
+        /// ```rust
+        /// use divsharun::{AddressAllocator, AllocPolicy, Error, ListError, RangeInclusive};
+        ///
+        /// let [low, high] = [(0x1000, 0x1fff), (0x3000, 0x3fff)]
+        ///     .map(|(start, end)| RangeInclusive::new(start, end).expect("a range"));
+        /// let mut ports = AddressAllocator::with_held(0, 0x4000, &[low, high])?;
+        /// assert!(ports.held_ranges().eq([low, high]));
+        ///
+        /// assert_eq!(ports.allocate(0x1000, 1, AllocPolicy::LastMatch)?.start(), 0x2000);
+        /// assert_eq!(
+        ///     AddressAllocator::with_held(0, 0x4000, &[high, low]),
+        ///     Err(ListError { index: Some(1), error: Error::ResourceNotAvailable })
+        /// );
+        /// # Ok::<(), Error>(())
+        /// ```
+        pub fn with_held(base: u64, size: u64, held: &[RangeInclusive]) -> ListResult<Self> {
+            let make = || {
+                let held = converted(held, |range| range.0)?;
+                proved::AddressAllocator::with_held(Global, base, size, &held)
+            };
+            make().map(Self).map_err(list_error)
+        }
+
+        /// Creates an allocator like [`with_held`](Self::with_held), but returns an error if
+        /// memory runs out.
+        ///
+        /// # Errors
+        ///
+        /// In this order:
+        /// - `OutOfMemory` without an index if memory for a copy of the list runs out.
+        /// - `Refused` with `Underflow`, `Overflow` or `ResourceNotAvailable`, if `with_held` returns
+        ///   that error, with the same index.
+        /// - `OutOfMemory` without an index if memory for a node runs out. The nodes built so far are
+        ///   freed.
+        ///
+        /// # Example
+        ///
+        /// ```rust
+        /// use divsharun::{AddressAllocator, Error, ListError, RangeInclusive, TryError};
+        ///
+        /// let held = [RangeInclusive::new(0x1000, 0x1fff)?];
+        /// assert_eq!(AddressAllocator::try_with_held(0, 0x4000, &held)?.held_count(), 1);
+        /// assert_eq!(
+        ///     AddressAllocator::try_with_held(0, 0x1800, &held),
+        ///     Err(ListError {
+        ///         index: Some(0),
+        ///         error: TryError::Refused(Error::ResourceNotAvailable),
+        ///     })
+        /// );
+        /// # Ok::<(), TryError>(())
+        /// ```
+        pub fn try_with_held -> TryListResult;
+
+        /// Creates an allocator in which exactly these ranges are free. They must be in ascending order,
+        /// and share no address.
+        ///
+        /// The space is from the first address of the first range to the last address of the last one. Each
+        /// hole between the ranges is an allocated range, and can be freed. Ranges without a hole between
+        /// them are one gap. The tree has the minimum height. The time is linear in the number of ranges.
+        ///
+        /// # Errors
+        ///
+        /// In this order. Only the error of a range has an index.
+        /// - `Underflow` if there is no range.
+        /// - `ResourceNotAvailable` for the first range that does not start after the end of the range before
+        ///   it.
+        /// - `InvalidRange(0, u64::MAX)` if the space would have all 2^64 addresses.
+        /// - `Overflow` if there are 2^48 or more holes.
+        ///
+        /// # Example
+        ///
+        /// ```rust
+        /// use divsharun::{AddressAllocator, AllocPolicy, Error, ListError, RangeInclusive};
+        ///
+        /// // The windows of a host bridge.
+        /// let low = RangeInclusive::new(0xc000_0000, 0xfebf_ffff)?;
+        /// let high = RangeInclusive::new(0x1_0000_0000, 0x7f_ffff_ffff)?;
+        /// let mut mmio = AddressAllocator::with_free(&[low, high])?;
+        /// assert!(mmio.gaps().eq([low, high]));
+        ///
+        /// let bar = mmio.allocate(0x4000_0000, 0x4000_0000, AllocPolicy::FirstMatch)?;
+        /// assert_eq!(bar.start(), high.start());
+        /// assert_eq!(
+        ///     AddressAllocator::with_free(&[high, low]),
+        ///     Err(ListError { index: Some(1), error: Error::ResourceNotAvailable })
+        /// );
+        /// # Ok::<(), Error>(())
+        /// ```
+        pub fn with_free(free: &[RangeInclusive]) -> ListResult<Self> {
+            let make = || {
+                let free = converted(free, |range| range.0)?;
+                proved::AddressAllocator::with_free(Global, &free)
+            };
+            make().map(Self).map_err(list_error)
+        }
+
+        /// Creates an allocator like [`with_free`](Self::with_free), but returns an error if memory runs
+        /// out.
+        ///
+        /// # Errors
+        ///
+        /// In this order:
+        /// - `OutOfMemory` without an index if memory for a copy of the list runs out.
+        /// - `Refused` with `Underflow`, `ResourceNotAvailable`, `InvalidRange` or `Overflow`, if `with_free`
+        ///   returns that error, with the same index.
+        /// - `OutOfMemory` without an index if memory for the holes or for a node runs out.
+        ///
+        /// # Example
+        ///
+        /// ```rust
+        /// use divsharun::{AddressAllocator, Error, ListError, RangeInclusive, TryError};
+        ///
+        /// let [low, high] = [RangeInclusive::new(0, 0x2f7)?, RangeInclusive::new(0x300, 0x3f7)?];
+        /// let ports = AddressAllocator::try_with_free(&[low, high])?;
+        /// assert_eq!(ports.held_at(0x2f8).map(|hole| hole.to_string()), Some("2f8-2ff".to_string()));
+        /// assert_eq!(
+        ///     AddressAllocator::try_with_free(&[]),
+        ///     Err(ListError { index: None, error: TryError::Refused(Error::Underflow) })
+        /// );
+        /// # Ok::<(), TryError>(())
+        /// ```
+        pub fn try_with_free -> TryListResult;
+
         /// Allocates `size` free addresses that start at a multiple of `alignment`, and returns their
         /// range: the lowest for `FirstMatch`, the highest for `LastMatch`, and the range at `start` for
         /// `ExactMatch(start)`.
@@ -321,7 +316,7 @@ impl AddressAllocator {
             alignment: u64,
             policy: AllocPolicy,
         ) -> Result<RangeInclusive> {
-            self.0.allocate(Global, size, alignment, policy.proved())
+            Ok(RangeInclusive(self.0.allocate(Global, size, alignment, policy.proved())?))
         }
 
         /// Allocates a range like [`allocate`](Self::allocate), but returns an error if memory
@@ -349,7 +344,7 @@ impl AddressAllocator {
         /// );
         /// # Ok::<(), TryError>(())
         /// ```
-        pub fn try_allocate;
+        pub fn try_allocate -> TryResult;
 
         /// Allocates a range like [`allocate`](Self::allocate), for a request that was made before.
         ///
@@ -388,7 +383,7 @@ impl AddressAllocator {
         /// # Ok::<(), Error>(())
         /// ```
         pub fn allocate_constraint(&mut self, request: Constraint) -> Result<RangeInclusive> {
-            self.0.allocate_constraint(Global, request.0)
+            Ok(RangeInclusive(self.0.allocate_constraint(Global, request.0)?))
         }
 
         /// Allocates a range like [`allocate_constraint`](Self::allocate_constraint), but returns an
@@ -416,7 +411,7 @@ impl AddressAllocator {
         /// );
         /// # Ok::<(), TryError>(())
         /// ```
-        pub fn try_allocate_constraint;
+        pub fn try_allocate_constraint -> TryResult;
     }
 
     /// Returns the reason why the range of an `ExactMatch` request is not free, or `None` if it is free.
@@ -518,7 +513,7 @@ impl AddressAllocator {
             key: &RangeInclusive,
             request: Constraint,
         ) -> Result<RangeInclusive> {
-            self.0.move_constraint(Global, &key.0, request.0)
+            Ok(RangeInclusive(self.0.move_constraint(Global, &key.0, request.0)?))
         }
 
         /// Moves a range like [`move_constraint`](Self::move_constraint), but returns an error if memory
@@ -546,7 +541,7 @@ impl AddressAllocator {
         /// );
         /// # Ok::<(), TryError>(())
         /// ```
-        pub fn try_move_constraint;
+        pub fn try_move_constraint -> TryResult;
 
         /// Moves an allocated range to another start, and returns the range there.
         ///
@@ -584,7 +579,7 @@ impl AddressAllocator {
         /// # Ok::<(), Error>(())
         /// ```
         pub fn move_range(&mut self, key: &RangeInclusive, start: u64) -> Result<RangeInclusive> {
-            self.0.move_range(Global, &key.0, start)
+            Ok(RangeInclusive(self.0.move_range(Global, &key.0, start)?))
         }
 
         /// Moves a range like [`move_range`](Self::move_range), but returns an error if memory runs out.
@@ -610,84 +605,81 @@ impl AddressAllocator {
         /// );
         /// # Ok::<(), TryError>(())
         /// ```
-        pub fn try_move_range;
-    }
+        pub fn try_move_range -> TryResult;
 
-    /// Allocates a range for each request, in their order, and returns the ranges. Each request can
-    /// have its own window. Each range is where [`allocate_constraint`](Self::allocate_constraint)
-    /// places it after the requests before it.
-    ///
-    /// # Errors
-    ///
-    /// - `Overflow`, `ResourceNotAvailable` or `InvalidStateTransition`, with the index of a request, if
-    ///   `allocate_constraint` returns that error for it. The first request that fails decides.
-    ///
-    /// An error allocates no range, and all later calls have the same results. The shape of the tree can
-    /// differ, and so the [`height`](Self::height) and the counts of later calls.
-    ///
-    /// # Example
-    ///
-    /// ```rust
-    /// use divsharun::{AddressAllocator, AllocPolicy, Constraint, Error, ListError};
-    ///
-    /// let mut mmio = AddressAllocator::new(0xd000_0000, 0x4000)?;
-    /// let registers = Constraint::new(0x1000, 0x1000, AllocPolicy::FirstMatch)?;
-    /// let buffer = Constraint::new(0x2000, 0x2000, AllocPolicy::LastMatch)?;
-    /// let bars = mmio.allocate_all(&[registers, buffer])?;
-    /// assert_eq!((bars[0].start(), bars[1].start()), (0xd000_0000, 0xd000_2000));
-    ///
-    /// // Only one of these two fits.
-    /// assert_eq!(
-    ///     mmio.allocate_all(&[registers, registers]),
-    ///     Err(ListError { index: Some(1), error: Error::ResourceNotAvailable })
-    /// );
-    /// assert!(mmio.held_ranges().eq(bars));
-    /// # Ok::<(), Error>(())
-    /// ```
-    pub fn allocate_all(&mut self, requests: &[Constraint]) -> ListResult<Vec<RangeInclusive>> {
-        unless_list_out_of_memory(self.try_allocate_all(requests))
-    }
+        /// Allocates a range for each request, in their order, and returns the ranges. Each request can
+        /// have its own window. Each range is where [`allocate_constraint`](Self::allocate_constraint)
+        /// places it after the requests before it.
+        ///
+        /// # Errors
+        ///
+        /// - `Overflow`, `ResourceNotAvailable` or `InvalidStateTransition`, with the index of a request, if
+        ///   `allocate_constraint` returns that error for it. The first request that fails decides.
+        ///
+        /// An error allocates no range, and all later calls have the same results. The shape of the tree can
+        /// differ, and so the [`height`](Self::height) and the counts of later calls.
+        ///
+        /// # Example
+        ///
+        /// ```rust
+        /// use divsharun::{AddressAllocator, AllocPolicy, Constraint, Error, ListError};
+        ///
+        /// let mut mmio = AddressAllocator::new(0xd000_0000, 0x4000)?;
+        /// let registers = Constraint::new(0x1000, 0x1000, AllocPolicy::FirstMatch)?;
+        /// let buffer = Constraint::new(0x2000, 0x2000, AllocPolicy::LastMatch)?;
+        /// let bars = mmio.allocate_all(&[registers, buffer])?;
+        /// assert_eq!((bars[0].start(), bars[1].start()), (0xd000_0000, 0xd000_2000));
+        ///
+        /// // Only one of these two fits.
+        /// assert_eq!(
+        ///     mmio.allocate_all(&[registers, registers]),
+        ///     Err(ListError { index: Some(1), error: Error::ResourceNotAvailable })
+        /// );
+        /// assert!(mmio.held_ranges().eq(bars));
+        /// # Ok::<(), Error>(())
+        /// ```
+        pub fn allocate_all(&mut self, requests: &[Constraint]) -> ListResult<Vec<RangeInclusive>> {
+            let mut allocate = || {
+                // Nothing can fail after the allocation of the ranges.
+                let mut ranges = Vec::from(rattle::Vec::with_capacity(Global, requests.len())?);
+                let requests = converted(requests, |request| request.0)?;
+                let allocated = self.0.allocate_all(Global, &requests)?;
+                ranges.extend(allocated.iter().map(|range| RangeInclusive(*range)));
+                Ok(ranges)
+            };
+            allocate().map_err(list_error)
+        }
 
-    /// Allocates ranges like [`allocate_all`](Self::allocate_all), but returns an error if
-    /// memory runs out. Each request can have its own window.
-    ///
-    /// # Errors
-    ///
-    /// An error allocates no range. In this order:
-    /// - `OutOfMemory` without an index if memory for a list runs out.
-    /// - For the first request that fails, with its index:
-    ///   - `Refused` with `Overflow`, `ResourceNotAvailable` or `InvalidStateTransition`, if
-    ///     `allocate_all` returns that error.
-    ///   - `OutOfMemory` if memory for a node runs out.
-    ///
-    /// # Example
-    ///
-    /// ```rust
-    /// use divsharun::{AddressAllocator, AllocPolicy, Constraint, Error, ListError, TryError};
-    ///
-    /// let mut space = AddressAllocator::try_new(0, 3)?;
-    /// let request = Constraint::new(2, 1, AllocPolicy::FirstMatch)?;
-    /// assert_eq!(
-    ///     space.try_allocate_all(&[request, request]),
-    ///     Err(ListError {
-    ///         index: Some(1),
-    ///         error: TryError::Refused(Error::ResourceNotAvailable),
-    ///     })
-    /// );
-    /// assert_eq!(space.try_allocate_all(&[request])?[0].end(), 1);
-    /// # Ok::<(), TryError>(())
-    /// ```
-    pub fn try_allocate_all(
-        &mut self,
-        requests: &[Constraint],
-    ) -> TryListResult<Vec<RangeInclusive>> {
-        // Nothing can fail after the allocation of the ranges.
-        let mut ranges = list_for(requests.len())?;
-        let requests = converted(requests, |request| request.0)?;
-        let allocated = self.0.allocate_all(Global, &requests);
-        let allocated = allocated.map_err(Into::into)?;
-        ranges.extend(allocated.iter().map(|range| RangeInclusive(*range)));
-        Ok(ranges)
+        /// Allocates ranges like [`allocate_all`](Self::allocate_all), but returns an error if
+        /// memory runs out. Each request can have its own window.
+        ///
+        /// # Errors
+        ///
+        /// An error allocates no range. In this order:
+        /// - `OutOfMemory` without an index if memory for a list runs out.
+        /// - For the first request that fails, with its index:
+        ///   - `Refused` with `Overflow`, `ResourceNotAvailable` or `InvalidStateTransition`, if
+        ///     `allocate_all` returns that error.
+        ///   - `OutOfMemory` if memory for a node runs out.
+        ///
+        /// # Example
+        ///
+        /// ```rust
+        /// use divsharun::{AddressAllocator, AllocPolicy, Constraint, Error, ListError, TryError};
+        ///
+        /// let mut space = AddressAllocator::try_new(0, 3)?;
+        /// let request = Constraint::new(2, 1, AllocPolicy::FirstMatch)?;
+        /// assert_eq!(
+        ///     space.try_allocate_all(&[request, request]),
+        ///     Err(ListError {
+        ///         index: Some(1),
+        ///         error: TryError::Refused(Error::ResourceNotAvailable),
+        ///     })
+        /// );
+        /// assert_eq!(space.try_allocate_all(&[request])?[0].end(), 1);
+        /// # Ok::<(), TryError>(())
+        /// ```
+        pub fn try_allocate_all -> TryListResult;
     }
 
     /// Allocates a range like [`allocate`](Self::allocate), and also returns the number of tree
@@ -1228,18 +1220,9 @@ fn part_of(space: RangeInclusive, window: impl Window) -> RangeInclusive {
 }
 
 /// Returns a list of converted items.
-fn converted<T, P>(items: &[T], convert: impl Fn(&T) -> P) -> TryListResult<Vec<P>> {
-    let mut list = list_for(items.len())?;
+fn converted<T, P>(items: &[T], convert: impl Fn(&T) -> P) -> proved::Result<Vec<P>> {
+    let mut list = Vec::from(rattle::Vec::with_capacity(Global, items.len())?);
     list.extend(items.iter().map(convert));
-    Ok(list)
-}
-
-/// Creates an empty list with memory for a number of values.
-fn list_for<T>(length: usize) -> TryListResult<Vec<T>> {
-    let (mut list, index) = (Vec::new(), None);
-    let reserved = list.try_reserve_exact(length);
-    let error = TryError::OutOfMemory;
-    reserved.map_err(|_| ListError { index, error })?;
     Ok(list)
 }
 
@@ -1307,7 +1290,9 @@ pub struct Gaps<'a>(proved::Ranges<'a>);
 #[derive(Clone)]
 pub struct GapsIn<'a>(proved::RangesIn<'a>);
 
-iterate!(HeldRanges, Gaps, HeldRangesIn, GapsIn: RangeInclusive, RangeInclusive);
+iterate! {
+    HeldRanges, Gaps, HeldRangesIn, GapsIn: RangeInclusive, |_ranges, range| RangeInclusive(range)
+}
 allocator!(AddressAllocator, HeldRanges of RangeInclusive, "the allocated ranges");
 
 impl ExactSizeIterator for HeldRanges<'_> {}

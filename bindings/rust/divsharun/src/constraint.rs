@@ -182,11 +182,7 @@ impl Constraint {
     /// ```
     pub fn within(self, window: impl Window) -> Result<Self> {
         let (low, high) = window.limits();
-        match self.0.within_limits(low, high) {
-            Ok(request) => Ok(Constraint(request)),
-            // The only error of the call.
-            Err(_) => Err(Error::InvalidRange(low, high)),
-        }
+        Ok(Constraint(self.0.within_limits(low, high)?))
     }
 
     /// Returns the window in which the range must lie, or `None` if there is no limit.

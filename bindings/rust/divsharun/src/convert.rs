@@ -5,7 +5,6 @@
 //! unless it is the only one. Such a conversion is an impl of `Into` for the proved type instead.
 #![allow(clippy::from_over_into)]
 
-use crate::error::{ListResult, TryListResult};
 use crate::proved::{vm_addresses as proved, vm_devices};
 use crate::TryError;
 use crate::{AddressAllocator, Conflict, DeviceSlot, Error, ListError, NodeState, RangeInclusive};
@@ -64,20 +63,8 @@ impl From<RangeInclusive> for proved::RangeInclusive {
 
 impl Into<DeviceSlot> for vm_devices::DeviceSlot {
     fn into(self) -> DeviceSlot {
-        DeviceSlot {
-            id: self.id,
-            range: self.range.into(),
-        }
-    }
-}
-
-#[cfg(feature = "serde")]
-impl From<DeviceSlot> for vm_devices::DeviceSlot {
-    fn from(slot: DeviceSlot) -> Self {
-        vm_devices::DeviceSlot {
-            id: slot.id,
-            range: slot.range.0,
-        }
+        let (id, range) = (self.id, self.range.into());
+        DeviceSlot { id, range }
     }
 }
 
@@ -101,21 +88,10 @@ impl From<proved::Error> for TryError {
     }
 }
 
-impl Into<ListError<TryError>> for proved::ListError {
-    fn into(self) -> ListError<TryError> {
-        ListError {
-            index: self.index,
-            error: self.error.into(),
-        }
-    }
-}
-
-/// Converts a result of a `try_` call with a list. Ends the process if memory ran out.
-pub(crate) fn unless_list_out_of_memory<T>(answer: TryListResult<T>) -> ListResult<T> {
-    answer.map_err(|failure| ListError {
-        index: failure.index,
-        error: failure.error.error().unwrap_or_else(|| out_of_memory()),
-    })
+/// Converts the error of a call with a list.
+pub(crate) fn list_error<E: From<proved::Error>>(failure: proved::ListError) -> ListError<E> {
+    let (index, error) = (failure.index, failure.error.into());
+    ListError { index, error }
 }
 
 /// Ends the process, as Rust's collections do.

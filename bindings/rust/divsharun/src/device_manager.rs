@@ -7,7 +7,7 @@ use crate::proved::vm_devices as proved;
 use crate::rattle::Global;
 use crate::traits::{allocator, iterate, twins, DebugList};
 use crate::RangeInclusive;
-use crate::{AddressAllocator, AllocPolicy, Conflict, Constraint, IdAllocator, IdRequest};
+use crate::{AddressAllocator, AllocPolicy, Conflict, Constraint, IdAllocator, IdRequest, Result};
 use core::fmt;
 
 /// The resources of a device: an id and a range of addresses.
@@ -85,8 +85,6 @@ pub struct DeviceSlot {
 /// # Ok::<(), Error>(())
 /// ```
 #[derive(PartialEq, Eq)]
-#[cfg_attr(feature = "serde", derive(serde::Serialize, serde::Deserialize))]
-#[cfg_attr(feature = "serde", serde(transparent))]
 pub struct DeviceManager(pub(crate) proved::DeviceManager);
 
 impl DeviceManager {
@@ -112,7 +110,7 @@ impl DeviceManager {
         /// # Ok::<(), Error>(())
         /// ```
         pub fn new(id_lo: u32, id_hi: u32, base: u64, size: u64) -> Result<Self> {
-            proved::DeviceManager::new(Global, id_lo, id_hi, base, size).map(Self)
+            Ok(Self(proved::DeviceManager::new(Global, id_lo, id_hi, base, size)?))
         }
 
         /// Creates a manager like [`new`](Self::new), but returns an error if memory runs out.
@@ -136,7 +134,7 @@ impl DeviceManager {
         /// );
         /// # Ok::<(), TryError>(())
         /// ```
-        pub fn try_new;
+        pub fn try_new -> TryResult;
 
         /// Allocates the lowest free id and a range of `size` addresses for a new device. `policy` and
         /// `align` choose the range as in
@@ -168,7 +166,7 @@ impl DeviceManager {
         /// ```
         #[doc(alias("allocate", "add", "insert"))]
         pub fn reserve(&mut self, size: u64, align: u64, policy: AllocPolicy) -> Result<DeviceSlot> {
-            self.0.reserve(Global, size, align, policy.proved())
+            Ok(self.0.reserve(Global, size, align, policy.proved())?.into())
         }
 
         /// Reserves like [`reserve`](Self::reserve), but returns an error if memory runs out.
@@ -193,7 +191,7 @@ impl DeviceManager {
         /// );
         /// # Ok::<(), TryError>(())
         /// ```
-        pub fn try_reserve;
+        pub fn try_reserve -> TryResult;
 
         /// Reserves like [`reserve`](Self::reserve), for a request that was made before. If the request
         /// has a [window](Constraint::within), the range lies in it.
@@ -218,7 +216,7 @@ impl DeviceManager {
         /// # Ok::<(), divsharun::Error>(())
         /// ```
         pub fn reserve_constraint(&mut self, request: Constraint) -> Result<DeviceSlot> {
-            self.0.reserve_constraint(Global, request.0)
+            Ok(self.0.reserve_constraint(Global, request.0)?.into())
         }
 
         /// Reserves like [`reserve_constraint`](Self::reserve_constraint), but returns an error if memory
@@ -245,7 +243,7 @@ impl DeviceManager {
         /// assert_eq!(devices.try_reserve_constraint(bar)?.id, 5);
         /// # Ok::<(), TryError>(())
         /// ```
-        pub fn try_reserve_constraint;
+        pub fn try_reserve_constraint -> TryResult;
 
         /// Reserves like [`reserve_constraint`](Self::reserve_constraint), with the id of another request
         /// instead of the lowest free one.
@@ -276,7 +274,7 @@ impl DeviceManager {
         /// # Ok::<(), Error>(())
         /// ```
         pub fn reserve_with_id(&mut self, id: IdRequest, request: Constraint) -> Result<DeviceSlot> {
-            self.0.reserve_with_id(Global, id, request.0)
+            Ok(self.0.reserve_with_id(Global, id, request.0)?.into())
         }
 
         /// Reserves like [`reserve_with_id`](Self::reserve_with_id), but returns an error if memory runs
@@ -303,7 +301,7 @@ impl DeviceManager {
         /// );
         /// # Ok::<(), TryError>(())
         /// ```
-        pub fn try_reserve_with_id;
+        pub fn try_reserve_with_id -> TryResult;
     }
 
     /// Returns the reason why the range of an `ExactMatch` request is not free, like
@@ -354,7 +352,7 @@ impl DeviceManager {
         /// # Ok::<(), Error>(())
         /// ```
         pub fn move_constraint(&mut self, id: u32, request: Constraint) -> Result<RangeInclusive> {
-            self.0.move_constraint(Global, id, request.0)
+            Ok(RangeInclusive(self.0.move_constraint(Global, id, request.0)?))
         }
 
         /// Moves a device like [`move_constraint`](Self::move_constraint), but returns an error if memory
@@ -381,7 +379,7 @@ impl DeviceManager {
         /// );
         /// # Ok::<(), TryError>(())
         /// ```
-        pub fn try_move_constraint;
+        pub fn try_move_constraint -> TryResult;
 
         /// Releases a device: frees its id and its range.
         ///
@@ -403,7 +401,7 @@ impl DeviceManager {
         /// ```
         #[doc(alias("free", "remove"))]
         pub fn release(&mut self, id: u32) -> Result<()> {
-            self.0.release(id)
+            Ok(self.0.release(id)?)
         }
 
         /// Releases a device like [`release`](Self::release), but returns an error if memory
@@ -429,7 +427,7 @@ impl DeviceManager {
         /// );
         /// # Ok::<(), TryError>(())
         /// ```
-        pub fn try_release;
+        pub fn try_release -> TryResult;
     }
 
     /// Returns an iterator over the devices, like [`devices`](Self::devices).
@@ -506,8 +504,7 @@ impl DeviceManager {
     /// ```
     #[must_use]
     pub fn addresses(&self) -> AddressAllocator {
-        let copy = self.try_addresses();
-        copy.unwrap_or_else(|_| out_of_memory())
+        self.try_addresses().unwrap_or_else(|_| out_of_memory())
     }
 
     /// Copies like [`addresses`](Self::addresses), but returns an error if memory runs out.
@@ -684,7 +681,7 @@ impl fmt::Debug for DeviceManager {
 #[derive(Clone)]
 pub struct Devices<'a>(proved::Devices<'a>);
 
-iterate!(Devices: DeviceSlot, Into::into);
+iterate!(Devices: DeviceSlot, |_devices, device| device.into());
 allocator!(DeviceManager, Devices of DeviceSlot, "the devices");
 
 impl ExactSizeIterator for Devices<'_> {}

@@ -1,6 +1,6 @@
 // SPDX-License-Identifier: Apache-2.0 OR BSD-3-Clause
 use crate::pad::pad;
-use crate::proved::vm_addresses::Error as Proved;
+use crate::proved::vm_addresses as proved;
 use crate::{NodeState, RangeInclusive};
 use core::fmt;
 
@@ -52,7 +52,7 @@ pub enum Error {
 // The proved code has the texts.
 impl fmt::Display for Error {
     fn fmt(&self, f: &mut fmt::Formatter<'_>) -> fmt::Result {
-        pad(f, |to| write!(to, "{}", Proved::from(*self)))
+        pad(f, |to| write!(to, "{}", proved::Error::from(*self)))
     }
 }
 
@@ -136,7 +136,7 @@ impl fmt::Display for TryError {
     fn fmt(&self, f: &mut fmt::Formatter<'_>) -> fmt::Result {
         match self {
             TryError::Refused(error) => error.fmt(f),
-            TryError::OutOfMemory => pad(f, |to| write!(to, "{}", Proved::OutOfMemory)),
+            TryError::OutOfMemory => pad(f, |to| write!(to, "{}", proved::Error::OutOfMemory)),
         }
     }
 }
@@ -231,14 +231,8 @@ impl From<ListError> for Error {
     }
 }
 
-impl From<ListError> for TryError {
-    fn from(failure: ListError) -> TryError {
+impl<E: Into<TryError>> From<ListError<E>> for TryError {
+    fn from(failure: ListError<E>) -> TryError {
         failure.error.into()
-    }
-}
-
-impl From<ListError<TryError>> for TryError {
-    fn from(failure: ListError<TryError>) -> TryError {
-        failure.error
     }
 }

@@ -71,8 +71,9 @@ impl IdAllocator {
     /// # Ok::<(), Error>(())
     /// ```
     pub fn new(range_base: u32, range_end: u32) -> Result<Self> {
-        let made = proved::IdAllocator::new(Global, range_base, range_end)?;
-        Ok(IdAllocator(made))
+        Ok(Self(proved::IdAllocator::new(
+            Global, range_base, range_end,
+        )?))
     }
 
     twins! {
@@ -103,7 +104,7 @@ impl IdAllocator {
         /// # Ok::<(), Error>(())
         /// ```
         pub fn with_held(range_base: u32, range_end: u32, held: &[u32]) -> Result<Self> {
-            proved::IdAllocator::with_held(Global, range_base, range_end, held).map(Self)
+            Ok(Self(proved::IdAllocator::with_held(Global, range_base, range_end, held)?))
         }
 
         /// Creates an allocator like [`with_held`](Self::with_held), but returns an error if memory
@@ -130,7 +131,7 @@ impl IdAllocator {
         /// );
         /// # Ok::<(), TryError>(())
         /// ```
-        pub fn try_with_held;
+        pub fn try_with_held -> TryResult;
     }
 
     /// Allocates the lowest free id. It does not allocate memory.
@@ -185,7 +186,7 @@ impl IdAllocator {
         /// # Ok::<(), Error>(())
         /// ```
         pub fn allocate_exact(&mut self, id: u32) -> Result<u32> {
-            self.0.allocate_exact(id)
+            Ok(self.0.allocate_exact(id)?)
         }
 
         /// Allocates an id like [`allocate_exact`](Self::allocate_exact), but returns an error if
@@ -211,7 +212,7 @@ impl IdAllocator {
         /// );
         /// # Ok::<(), TryError>(())
         /// ```
-        pub fn try_allocate_exact;
+        pub fn try_allocate_exact -> TryResult;
 
         /// Allocates the lowest free id in a window, which is a range of `u32`, and returns it.
         ///
@@ -239,7 +240,7 @@ impl IdAllocator {
         /// ```
         pub fn allocate_in(&mut self, window: impl Window<u32>) -> Result<u32> {
             let (first, last) = window.limits();
-            self.0.allocate_in(first, last)
+            Ok(self.0.allocate_in(first, last)?)
         }
 
         /// Allocates an id like [`allocate_in`](Self::allocate_in), but returns an error if memory
@@ -265,7 +266,7 @@ impl IdAllocator {
         /// );
         /// # Ok::<(), TryError>(())
         /// ```
-        pub fn try_allocate_in;
+        pub fn try_allocate_in -> TryResult;
 
         /// Allocates the `count` lowest free ids, or none, and returns them in ascending order. They are the
         /// ids that `count` calls of [`allocate_id`](Self::allocate_id) would allocate.
@@ -288,7 +289,7 @@ impl IdAllocator {
         /// # Ok::<(), Error>(())
         /// ```
         pub fn allocate_ids(&mut self, count: usize) -> Result<Vec<u32>> {
-            self.0.allocate_ids(Global, count)
+            Ok(self.0.allocate_ids(Global, count)?.into())
         }
 
         /// Allocates ids like [`allocate_ids`](Self::allocate_ids), but returns an error if memory
@@ -315,7 +316,7 @@ impl IdAllocator {
         /// assert_eq!(vectors.free_count(), 204);
         /// # Ok::<(), TryError>(())
         /// ```
-        pub fn try_allocate_ids;
+        pub fn try_allocate_ids -> TryResult;
     }
 
     /// Returns the id or the error that [`allocate_id`](Self::allocate_id) would return, without
@@ -385,7 +386,7 @@ impl IdAllocator {
         /// ```
         #[doc(alias = "release")]
         pub fn free_id(&mut self, id: u32) -> Result<u32> {
-            self.0.free_id(id)
+            Ok(self.0.free_id(id)?)
         }
 
         /// Frees an id like [`free_id`](Self::free_id), but returns an error if memory runs out.
@@ -409,7 +410,7 @@ impl IdAllocator {
         /// assert_eq!(guests.try_free_id(id), Err(TryError::Refused(Error::AlreadyReleased(3))));
         /// # Ok::<(), TryError>(())
         /// ```
-        pub fn try_free_id;
+        pub fn try_free_id -> TryResult;
     }
 
     /// Returns the first id of the range.

@@ -39,10 +39,8 @@ type Named<'a> = (RangeInclusive, usize, &'a str);
 impl<'a> Layout<'a> {
     /// Creates the layout of an allocator, without names.
     pub(crate) fn of(allocator: &'a AddressAllocator) -> Self {
-        Layout {
-            allocator,
-            names: Vec::new(),
-        }
+        let names = Vec::new();
+        Layout { allocator, names }
     }
 
     /// Adds names for allocated ranges. A name for any other range is not shown. The layout borrows the
@@ -207,28 +205,15 @@ pub struct Blocks<'a> {
 }
 
 impl<'a> Blocks<'a> {
-    fn allocated(&self, range: RangeInclusive) -> Block<'a> {
-        Block {
-            range,
-            state: NodeState::Allocated,
-            name: self.name(range),
-        }
-    }
-
-    /// Returns the last name that was given to the range.
-    fn name(&self, range: RangeInclusive) -> Option<&'a str> {
-        let upto = self.names.partition_point(|(named, ..)| *named <= range);
-        let (named, _, name) = self.names[..upto].last()?;
-        (*named == range).then_some(*name)
-    }
-
-    /// Returns a gap. A space never has all 2^64 addresses, so each of its blocks is a range.
-    fn gap(start: u64, end: u64) -> Option<Block<'a>> {
-        Some(Block {
-            range: RangeInclusive::new(start, end).ok()?,
-            state: NodeState::Free,
-            name: None,
-        })
+    /// Returns a block. If it is allocated, it has the last name that was given to its range.
+    fn block(&self, range: RangeInclusive, state: NodeState) -> Block<'a> {
+        let upto = match state {
+            NodeState::Free => 0,
+            NodeState::Allocated => self.names.partition_point(|(named, ..)| *named <= range),
+        };
+        let last = self.names[..upto].last();
+        let name = last.and_then(|(named, _, name)| (*named == range).then_some(*name));
+        Block { range, state, name }
     }
 }
 
@@ -237,20 +222,19 @@ impl<'a> Iterator for Blocks<'a> {
 
     fn next(&mut self) -> Option<Block<'a>> {
         self.left = self.left.checked_sub(1)?;
-        self.lowest = self
-            .lowest
-            .or_else(|| self.held.next())
-            .or_else(|| self.highest.take());
-        let block = match self.lowest {
-            Some(range) if range.start() == self.start => {
-                self.lowest = None;
-                self.allocated(range)
+        let next = self.lowest.take().or_else(|| self.held.next());
+        let next = next.or_else(|| self.highest.take());
+        let (range, state) = match next {
+            Some(range) if range.start() == self.start => (range, NodeState::Allocated),
+            // A space never has all 2^64 addresses, so its gaps are ranges.
+            _ => {
+                self.lowest = next;
+                let end = next.map_or(self.end, |range| range.start() - 1);
+                (RangeInclusive::new(self.start, end).ok()?, NodeState::Free)
             }
-            Some(range) => Self::gap(self.start, range.start() - 1)?,
-            None => Self::gap(self.start, self.end)?,
         };
-        self.start = block.range.end().wrapping_add(1);
-        Some(block)
+        self.start = range.end().wrapping_add(1);
+        Some(self.block(range, state))
     }
 
     fn size_hint(&self) -> (usize, Option<usize>) {
@@ -261,20 +245,18 @@ impl<'a> Iterator for Blocks<'a> {
 impl<'a> DoubleEndedIterator for Blocks<'a> {
     fn next_back(&mut self) -> Option<Block<'a>> {
         self.left = self.left.checked_sub(1)?;
-        self.highest = self
-            .highest
-            .or_else(|| self.held.next_back())
-            .or_else(|| self.lowest.take());
-        let block = match self.highest {
-            Some(range) if range.end() == self.end => {
-                self.highest = None;
-                self.allocated(range)
+        let next = self.highest.take().or_else(|| self.held.next_back());
+        let next = next.or_else(|| self.lowest.take());
+        let (range, state) = match next {
+            Some(range) if range.end() == self.end => (range, NodeState::Allocated),
+            _ => {
+                self.highest = next;
+                let start = next.map_or(self.start, |range| range.end() + 1);
+                (RangeInclusive::new(start, self.end).ok()?, NodeState::Free)
             }
-            Some(range) => Self::gap(range.end() + 1, self.end)?,
-            None => Self::gap(self.start, self.end)?,
         };
-        self.end = block.range.start().wrapping_sub(1);
-        Some(block)
+        self.end = range.start().wrapping_sub(1);
+        Some(self.block(range, state))
     }
 }
 

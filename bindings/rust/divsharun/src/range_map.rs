@@ -1,13 +1,11 @@
 // SPDX-License-Identifier: Apache-2.0 OR BSD-3-Clause
 use crate::address_allocator::space_of;
-use crate::convert::out_of_memory;
 use crate::error::TryResult;
 use crate::proved::vm_addresses::{self, RangeInclusive as Range};
 use crate::proved::vm_range_map as proved;
-use crate::rattle::Global;
-use crate::traits::{twins, DebugList};
-use crate::{AllocPolicy, Constraint, RangeInclusive, Result, TryError};
-use alloc::vec::Vec;
+use crate::rattle::{Global, Vec};
+use crate::traits::{allocator, iterate, twins, DebugList};
+use crate::{AllocPolicy, Constraint, RangeInclusive, Result};
 use core::fmt;
 
 /// Allocates ranges of addresses from one space, and keeps a value with each allocated range, such as
@@ -69,7 +67,7 @@ impl<T> RangeMap<T> {
         /// # Ok::<(), Error>(())
         /// ```
         pub fn new(base: u64, size: u64) -> Result<Self> {
-            let (ranges, values) = (proved::RangeMap::new(Global, base, size)?, Vec::new());
+            let (ranges, values) = (proved::RangeMap::new(Global, base, size)?, Vec::new(Global));
             Ok(RangeMap { ranges, values })
         }
 
@@ -93,7 +91,7 @@ impl<T> RangeMap<T> {
         /// assert_eq!(empty, Err(TryError::Refused(Error::Underflow)));
         /// # Ok::<(), TryError>(())
         /// ```
-        pub fn try_new;
+        pub fn try_new -> TryResult;
 
         /// Allocates `size` free addresses that start at a multiple of `alignment`, keeps `value` with their
         /// range, and returns the range. `policy` chooses the range as in
@@ -130,7 +128,7 @@ impl<T> RangeMap<T> {
         ) -> Result<RangeInclusive> {
             let (policy, index) = (policy.proved(), self.values.len() as u64);
             let range = self.ranges.allocate(Global, size, alignment, policy, index)?;
-            self.keep(range, value)
+            Ok(RangeInclusive(self.keep(range, value)?))
         }
 
         /// Allocates a range like [`allocate`](Self::allocate), but returns an error if memory runs out.
@@ -155,7 +153,7 @@ impl<T> RangeMap<T> {
         /// );
         /// # Ok::<(), TryError>(())
         /// ```
-        pub fn try_allocate;
+        pub fn try_allocate -> TryResult;
 
         /// Allocates a range like [`allocate`](Self::allocate), for a request that was made before. If the
         /// request has a [window](Constraint::within), the range lies in it.
@@ -180,7 +178,7 @@ impl<T> RangeMap<T> {
         pub fn allocate_constraint(&mut self, request: Constraint, value: T) -> Result<RangeInclusive> {
             let index = self.values.len() as u64;
             let range = self.ranges.allocate_constraint(Global, request.0, index)?;
-            self.keep(range, value)
+            Ok(RangeInclusive(self.keep(range, value)?))
         }
 
         /// Allocates a range like [`allocate_constraint`](Self::allocate_constraint), but returns an error if
@@ -206,16 +204,15 @@ impl<T> RangeMap<T> {
         /// );
         /// # Ok::<(), TryError>(())
         /// ```
-        pub fn try_allocate_constraint;
+        pub fn try_allocate_constraint -> TryResult;
     }
 
     /// Keeps the value of a range that is allocated. Without memory for it, the range is freed.
     fn keep(&mut self, range: Range, value: T) -> vm_addresses::Result<Range> {
-        if self.values.try_reserve(1).is_err() {
+        if let Err(failed) = self.values.push((range.start(), value)) {
             let _ = self.ranges.free(&range);
-            return Err(vm_addresses::Error::OutOfMemory);
+            return Err(failed.into());
         }
-        self.values.push((range.start(), value));
         Ok(range)
     }
 
@@ -253,7 +250,7 @@ impl<T> RangeMap<T> {
             if let Some(at) = self.ranges.get(to.start()) {
                 self.values[at.value as usize].0 = to.start();
             }
-            Ok(to)
+            Ok(RangeInclusive(to))
         }
 
         /// Moves a range like [`move_constraint`](Self::move_constraint), but returns an error if memory runs
@@ -276,7 +273,7 @@ impl<T> RangeMap<T> {
         /// assert_eq!(bus.try_move_constraint(&net, longer)?.len(), 0x8000);
         /// # Ok::<(), TryError>(())
         /// ```
-        pub fn try_move_constraint;
+        pub fn try_move_constraint -> TryResult;
     }
 
     /// Frees an allocated range, and returns its value. It does not allocate memory, and always succeeds
@@ -373,10 +370,7 @@ impl<T> RangeMap<T> {
     /// ```
     #[must_use]
     pub fn iter(&self) -> ValuedRanges<'_, T> {
-        ValuedRanges {
-            ranges: self.ranges.iter(),
-            values: &self.values,
-        }
+        ValuedRanges(self.ranges.iter(), &self.values)
     }
 
     /// Returns the number of allocated ranges in constant time.
@@ -435,18 +429,13 @@ impl<T> RangeMap<T> {
         T: Clone,
     {
         let ranges = self.ranges.try_clone(Global)?;
-        let mut values = Vec::new();
-        let reserved = values.try_reserve_exact(self.values.len());
-        reserved.map_err(|_| TryError::OutOfMemory)?;
-        values.extend_from_slice(&self.values);
+        let values = self.values.clone().map_err(vm_addresses::Error::from)?;
         Ok(RangeMap { ranges, values })
     }
 }
 
-impl<T: Clone> Clone for RangeMap<T> {
-    fn clone(&self) -> Self {
-        self.try_clone().unwrap_or_else(|_| out_of_memory())
-    }
+allocator! {
+    RangeMap<T>, ValuedRanges of (RangeInclusive, &'a T), "the allocated ranges with their values"
 }
 
 impl<T: PartialEq> PartialEq for RangeMap<T> {
@@ -467,65 +456,21 @@ impl<T: fmt::Debug> fmt::Debug for RangeMap<T> {
     }
 }
 
-impl<'a, T> IntoIterator for &'a RangeMap<T> {
-    type Item = (RangeInclusive, &'a T);
-    type IntoIter = ValuedRanges<'a, T>;
-
-    /// Returns an iterator over the allocated ranges with their values.
-    fn into_iter(self) -> ValuedRanges<'a, T> {
-        self.iter()
-    }
-}
-
 /// An iterator over the allocated ranges of a [`RangeMap`] with their values, in ascending order or from
 /// both ends. Its length is exact.
 ///
 /// It is created by [`iter`](RangeMap::iter).
-pub struct ValuedRanges<'a, T> {
-    ranges: proved::ValuedRanges<'a>,
-    values: &'a [(u64, T)],
-}
+pub struct ValuedRanges<'a, T>(proved::ValuedRanges<'a>, &'a [(u64, T)]);
 
-impl<'a, T> ValuedRanges<'a, T> {
-    /// Returns the range and the value of an item of the proved code.
-    fn item(&self, at: proved::ValuedRange) -> (RangeInclusive, &'a T) {
-        (RangeInclusive(at.range), &self.values[at.value as usize].1)
-    }
-}
-
-impl<'a, T> Iterator for ValuedRanges<'a, T> {
-    type Item = (RangeInclusive, &'a T);
-
-    fn next(&mut self) -> Option<Self::Item> {
-        self.ranges.next().map(|at| self.item(at))
-    }
-
-    fn size_hint(&self) -> (usize, Option<usize>) {
-        self.ranges.size_hint()
-    }
-}
-
-impl<T> DoubleEndedIterator for ValuedRanges<'_, T> {
-    fn next_back(&mut self) -> Option<Self::Item> {
-        self.ranges.next_back().map(|at| self.item(at))
-    }
+iterate! {
+    ValuedRanges<T>: (RangeInclusive, &'a T),
+    |ranges, at| (RangeInclusive(at.range), &ranges.1[at.value as usize].1)
 }
 
 impl<T> ExactSizeIterator for ValuedRanges<'_, T> {}
 
-impl<T> core::iter::FusedIterator for ValuedRanges<'_, T> {}
-
 impl<T> Clone for ValuedRanges<'_, T> {
     fn clone(&self) -> Self {
-        ValuedRanges {
-            ranges: self.ranges.clone(),
-            values: self.values,
-        }
-    }
-}
-
-impl<T> fmt::Debug for ValuedRanges<'_, T> {
-    fn fmt(&self, f: &mut fmt::Formatter<'_>) -> fmt::Result {
-        f.debug_struct("ValuedRanges").finish_non_exhaustive()
+        ValuedRanges(self.0.clone(), self.1)
     }
 }

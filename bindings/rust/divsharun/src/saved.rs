@@ -12,5 +12,23 @@ mod reading;
 mod strict;
 mod writing;
 
+use serde::{Deserialize, Serialize};
 pub use strict::Strict;
 pub use writing::Saved;
+
+/// The fields of a saved map.
+#[derive(Serialize, Deserialize)]
+#[serde(rename = "RangeMap", deny_unknown_fields)]
+struct Map<R> {
+    base: u64,
+    size: u64,
+    ranges: R,
+}
+
+/// A range of a map, and its value.
+#[derive(Serialize, Deserialize)]
+#[serde(deny_unknown_fields)]
+struct ValuedRange<T> {
+    range: crate::RangeInclusive,
+    value: T,
+}

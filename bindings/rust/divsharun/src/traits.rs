@@ -12,36 +12,38 @@ impl<I: Iterator<Item: fmt::Debug>, F: Fn() -> I> fmt::Debug for DebugList<F> {
     }
 }
 
-/// Implements `Clone` by `try_clone`, and `IntoIterator` by `iter`.
+/// Implements `Clone` by `try_clone`, and `IntoIterator` by `iter`, of an object that can have a type of values.
 macro_rules! allocator {
-    ($allocator:ident, $items:ident of $item:ty, $what:literal) => {
-        impl Clone for $allocator {
+    ($allocator:ident $(<$value:ident>)?, $items:ident of $item:ty, $what:literal) => {
+        impl$(<$value: Clone>)? Clone for $allocator$(<$value>)? {
             fn clone(&self) -> Self {
                 let copy = self.try_clone();
                 copy.unwrap_or_else(|_| $crate::convert::out_of_memory())
             }
         }
 
-        impl<'a> IntoIterator for &'a $allocator {
+        impl<'a $(, $value)?> IntoIterator for &'a $allocator$(<$value>)? {
             type Item = $item;
-            type IntoIter = $items<'a>;
+            type IntoIter = $items<'a $(, $value)?>;
 
             #[doc = concat!("Returns an iterator over ", $what, ".")]
-            fn into_iter(self) -> $items<'a> {
+            fn into_iter(self) -> Self::IntoIter {
                 self.iter()
             }
         }
     };
 }
 
-/// Implements iterators by those of the proved code, with a function that converts an item.
+/// Implements iterators, which can have a type of values, by those of the proved code. An expression converts an
+/// item that the iterator has found.
 macro_rules! iterate {
-    ($($name:ident),+: $item:ty, $convert:expr) => {$(
-        impl Iterator for $name<'_> {
+    ($($name:ident $(<$value:ident>)?),+: $item:ty, |$iterator:ident, $found:ident| $converted:expr) => {$(
+        impl<'a $(, $value)?> Iterator for $name<'a $(, $value)?> {
             type Item = $item;
 
             fn next(&mut self) -> Option<$item> {
-                self.0.next().map($convert)
+                let ($found, $iterator) = (self.0.next()?, self);
+                Some($converted)
             }
 
             fn size_hint(&self) -> (usize, Option<usize>) {
@@ -49,22 +51,23 @@ macro_rules! iterate {
             }
         }
 
-        impl DoubleEndedIterator for $name<'_> {
+        impl<'a $(, $value)?> DoubleEndedIterator for $name<'a $(, $value)?> {
             fn next_back(&mut self) -> Option<$item> {
-                self.0.next_back().map($convert)
+                let ($found, $iterator) = (self.0.next_back()?, self);
+                Some($converted)
             }
         }
 
-        $crate::traits::fused!($name);
+        $crate::traits::fused!($name $(<$value>)?);
     )+};
 }
 
-/// Implements `FusedIterator` and `Debug` of an iterator.
+/// Implements `FusedIterator` and `Debug` of an iterator, which can have a type of values.
 macro_rules! fused {
-    ($name:ident) => {
-        impl core::iter::FusedIterator for $name<'_> {}
+    ($name:ident $(<$value:ident>)?) => {
+        impl$(<$value>)? core::iter::FusedIterator for $name<'_ $(, $value)?> {}
 
-        impl core::fmt::Debug for $name<'_> {
+        impl$(<$value>)? core::fmt::Debug for $name<'_ $(, $value)?> {
             fn fmt(&self, f: &mut core::fmt::Formatter<'_>) -> core::fmt::Result {
                 f.debug_struct(stringify!($name)).finish_non_exhaustive()
             }
@@ -72,25 +75,19 @@ macro_rules! fused {
     };
 }
 
-/// Defines calls in pairs. If memory runs out, the first call of a pair ends the process, and the second
-/// one returns `OutOfMemory`. The body of both returns the result of the proved code, which is converted.
+/// Defines calls in pairs with the same body. If memory runs out, the first call of a pair ends the process, and
+/// the second one returns `OutOfMemory`: its type of result decides how an error of the proved code is converted.
 macro_rules! twins {
     ($(
         $(#[$attribute:meta])*
-        pub fn $name:ident($($parameter:tt)*) -> Result<$result:ty> $call:block
+        pub fn $name:ident($($parameter:tt)*) -> $result:ident<$value:ty> $body:block
         $(#[$try_attribute:meta])*
-        pub fn $try_name:ident;
+        pub fn $try_name:ident -> $try_result:ident;
     )+) => {$(
         $(#[$attribute])*
-        pub fn $name($($parameter)*) -> $crate::Result<$result> {
-            let answer: $crate::proved::vm_addresses::Result<_> = $call;
-            Ok(answer?.into())
-        }
+        pub fn $name($($parameter)*) -> $result<$value> $body
         $(#[$try_attribute])*
-        pub fn $try_name($($parameter)*) -> $crate::error::TryResult<$result> {
-            let answer: $crate::proved::vm_addresses::Result<_> = $call;
-            Ok(answer?.into())
-        }
+        pub fn $try_name($($parameter)*) -> $try_result<$value> $body
     )+};
 }
 

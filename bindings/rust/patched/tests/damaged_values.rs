@@ -7,7 +7,7 @@
 
 use box_count::proved::vm_allocator as proved;
 use box_count::proved::vm_devices as proved_devices;
-use box_count::rattle::Global;
+use box_count::rattle::{self, Global};
 use box_count::value::{self, Fields};
 use divsharun::{AddressAllocator, AllocPolicy, DeviceManager, IdAllocator};
 use serde::de::DeserializeOwned;
@@ -55,8 +55,11 @@ fn to_proved_value(value: &Value) -> value::Value {
         },
         Value::String(text) => value::Value::String(text.clone()),
         Value::Array(items) => {
-            let items: Vec<value::Value> = items.iter().map(to_proved_value).collect();
-            value::Value::Array(items.into())
+            let mut list = rattle::Vec::new(Global);
+            for item in items {
+                assert!(list.push(to_proved_value(item)).is_ok());
+            }
+            value::Value::Array(list)
         }
         Value::Object(fields) => {
             let fields = fields

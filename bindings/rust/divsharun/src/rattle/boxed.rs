@@ -1,12 +1,12 @@
 // SPDX-License-Identifier: Apache-2.0 OR BSD-3-Clause
 use super::{AllocFailed, Global};
-use core::fmt;
 use core::ops::{Deref, DerefMut};
 
 /// A box that reports a failed allocation.
 ///
 /// It is created as a vector of one element, because a vector can report a failed allocation
 /// without unsafe code. Converting the vector to a boxed array moves nothing.
+#[derive(Debug)]
 pub struct Box<T>(alloc::boxed::Box<[T; 1]>);
 
 impl<T> Box<T> {
@@ -37,11 +37,5 @@ impl<T> DerefMut for Box<T> {
     #[inline(always)]
     fn deref_mut(&mut self) -> &mut T {
         &mut self.0[0]
-    }
-}
-
-impl<T: fmt::Debug> fmt::Debug for Box<T> {
-    fn fmt(&self, f: &mut fmt::Formatter<'_>) -> fmt::Result {
-        self.0[0].fmt(f)
     }
 }

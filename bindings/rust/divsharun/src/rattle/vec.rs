@@ -1,10 +1,9 @@
 // SPDX-License-Identifier: Apache-2.0 OR BSD-3-Clause
 use super::{AllocError, AllocFailed, Global};
-use core::fmt;
 use core::ops::{Deref, DerefMut};
 
 /// A vector that reports a failed allocation.
-#[derive(PartialEq, Eq)]
+#[derive(Debug, PartialEq, Eq)]
 pub struct Vec<T>(alloc::vec::Vec<T>);
 
 impl<T> Vec<T> {
@@ -29,12 +28,6 @@ impl<T> Vec<T> {
         }
         self.0.push(value);
         Ok(())
-    }
-
-    /// Returns the number of values for which memory is allocated.
-    #[must_use]
-    pub fn capacity(&self) -> usize {
-        self.0.capacity()
     }
 
     /// Inserts a value before the value at `place`, or returns it if the allocation fails. The
@@ -69,48 +62,15 @@ impl<T> Vec<T> {
         Ok(())
     }
 
-    /// Removes the value at `place`, and returns it.
-    ///
-    /// # Panics
-    ///
-    /// If `place` is past the end.
-    pub fn remove(&mut self, place: usize) -> T {
-        self.0.remove(place)
-    }
-
-    /// Removes the values starting at `place`.
-    pub fn truncate(&mut self, place: usize) {
-        self.0.truncate(place);
-    }
-
     /// Returns a copy, or an error if an allocation fails.
     #[allow(clippy::should_implement_trait)]
     pub fn clone(&self) -> Result<Self, AllocError>
     where
         T: Clone,
     {
-        let mut list = alloc::vec::Vec::new();
-        list.try_reserve_exact(self.0.len())
-            .map_err(|_| AllocError)?;
-        list.extend_from_slice(&self.0);
-        Ok(Vec(list))
-    }
-
-    /// Removes the last value and returns it, or `None` if there is none.
-    pub fn pop(&mut self) -> Option<T> {
-        self.0.pop()
-    }
-
-    /// Returns the values.
-    #[must_use]
-    pub fn as_slice(&self) -> &[T] {
-        &self.0
-    }
-}
-
-impl<T> From<alloc::vec::Vec<T>> for Vec<T> {
-    fn from(list: alloc::vec::Vec<T>) -> Self {
-        Vec(list)
+        let mut list = Vec::with_capacity(Global, self.len())?;
+        list.0.extend_from_slice(self);
+        Ok(list)
     }
 }
 
@@ -120,22 +80,17 @@ impl<T> From<Vec<T>> for alloc::vec::Vec<T> {
     }
 }
 
+/// The methods that do not allocate are those of `alloc::vec::Vec`.
 impl<T> Deref for Vec<T> {
-    type Target = [T];
+    type Target = alloc::vec::Vec<T>;
 
-    fn deref(&self) -> &[T] {
+    fn deref(&self) -> &Self::Target {
         &self.0
     }
 }
 
 impl<T> DerefMut for Vec<T> {
-    fn deref_mut(&mut self) -> &mut [T] {
+    fn deref_mut(&mut self) -> &mut Self::Target {
         &mut self.0
-    }
-}
-
-impl<T: fmt::Debug> fmt::Debug for Vec<T> {
-    fn fmt(&self, f: &mut fmt::Formatter<'_>) -> fmt::Result {
-        self.0.fmt(f)
     }
 }

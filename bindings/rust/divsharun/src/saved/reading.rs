@@ -2,11 +2,12 @@
 //! Reads objects with serde. Fields can come in any order, and are checked as they come.
 
 use super::conditions::field_and_text;
+use super::{Map, ValuedRange};
 use crate::proved::vm_addresses::{AddressAllocator, RangeInclusive, ReadNodes, SavedError, Side};
-use crate::proved::vm_devices::{DeviceManager, ReadDevices};
+use crate::proved::vm_devices::{DeviceManager, DeviceSlot, ReadDevices};
 use crate::proved::vm_ids::{IdAllocator, ReadIds};
 use crate::rattle::{Global, Vec};
-use crate::{DeviceSlot, NodeState, TryError};
+use crate::{NodeState, TryError};
 use core::{fmt, mem};
 use serde::de::{DeserializeSeed, Error, MapAccess, SeqAccess, Visitor};
 use serde::{Deserialize, Deserializer};
@@ -51,11 +52,7 @@ struct Tree {
 fn root<'de, D: Deserializer<'de>>(from: D) -> Result<ReadNodes, D::Error> {
     let mut nodes = ReadNodes::new(Global);
     // The root ends as a left child.
-    let tree = Subtree {
-        nodes: &mut nodes,
-        side: Side::Left,
-    };
-    tree.deserialize(from)?;
+    Subtree(&mut nodes, Side::Left).deserialize(from)?;
     Ok(nodes)
 }
 
@@ -69,9 +66,10 @@ impl Space {
     }
 }
 
-impl<'de> Deserialize<'de> for AddressAllocator {
+impl<'de> Deserialize<'de> for crate::AddressAllocator {
     fn deserialize<D: Deserializer<'de>>(from: D) -> Result<Self, D::Error> {
-        Space::deserialize(from)?.allocator(AddressAllocator::from_nodes_repaired)
+        let allocator = Space::deserialize(from)?.allocator(AddressAllocator::from_nodes_repaired);
+        allocator.map(crate::AddressAllocator)
     }
 }
 
@@ -104,20 +102,7 @@ struct Request {
 }
 
 /// Reads a node with its children, or none, as the child on a side of the node around it.
-struct Subtree<'a> {
-    nodes: &'a mut ReadNodes,
-    side: Side,
-}
-
-impl Subtree<'_> {
-    /// Returns a reader of a child of this node.
-    fn child(&mut self, side: Side) -> Subtree<'_> {
-        Subtree {
-            nodes: self.nodes,
-            side,
-        }
-    }
-}
+struct Subtree<'a>(&'a mut ReadNodes, Side);
 
 impl<'de> DeserializeSeed<'de> for Subtree<'_> {
     type Value = ();
@@ -143,7 +128,7 @@ impl<'de> Visitor<'de> for Subtree<'_> {
     }
 
     fn visit_some<D: Deserializer<'de>>(self, from: D) -> Result<(), D::Error> {
-        self.nodes.begin().map_err(invalid)?;
+        self.0.begin().map_err(invalid)?;
         from.deserialize_struct("InnerNode", FIELDS, InnerNode(self))
     }
 }
@@ -172,15 +157,6 @@ fn element<T, E: Error>(read: Option<T>, field: Field) -> Result<T, E> {
 /// Reads a node. A derive could not pass the other nodes on to its children.
 struct InnerNode<'a>(Subtree<'a>);
 
-impl InnerNode<'_> {
-    /// Ends the node. Its children have ended.
-    #[inline(always)]
-    fn end<E: Error>(self, key: RangeInclusive, state: NodeState, height: u64) -> Result<(), E> {
-        let Subtree { nodes, side } = self.0;
-        nodes.end(side, key, state.into(), height).map_err(invalid)
-    }
-}
-
 impl<'de> Visitor<'de> for InnerNode<'_> {
     type Value = ();
 
@@ -188,18 +164,20 @@ impl<'de> Visitor<'de> for InnerNode<'_> {
         f.write_str(NODE)
     }
 
-    fn visit_seq<A: SeqAccess<'de>>(mut self, mut from: A) -> Result<(), A::Error> {
+    fn visit_seq<A: SeqAccess<'de>>(self, mut from: A) -> Result<(), A::Error> {
+        let InnerNode(Subtree(nodes, side)) = self;
         let key = element(from.next_element()?, Field::Key)?;
-        let state = element(from.next_element()?, Field::NodeState)?;
-        let left = from.next_element_seed(self.0.child(Side::Left))?;
+        let state: NodeState = element(from.next_element()?, Field::NodeState)?;
+        let left = from.next_element_seed(Subtree(nodes, Side::Left))?;
         element(left, Field::Left)?;
-        let right = from.next_element_seed(self.0.child(Side::Right))?;
+        let right = from.next_element_seed(Subtree(nodes, Side::Right))?;
         element(right, Field::Right)?;
         let height = element(from.next_element()?, Field::Height)?;
-        self.end(key, state, height)
+        nodes.end(side, key, state.into(), height).map_err(invalid)
     }
 
-    fn visit_map<A: MapAccess<'de>>(mut self, mut from: A) -> Result<(), A::Error> {
+    fn visit_map<A: MapAccess<'de>>(self, mut from: A) -> Result<(), A::Error> {
+        let InnerNode(Subtree(nodes, side)) = self;
         let (mut key, mut state, mut height) = (None, NodeState::Free, 0);
         let mut seen = [false; FIELDS.len()];
         while let Some(field) = from.next_key::<Field>()? {
@@ -209,13 +187,13 @@ impl<'de> Visitor<'de> for InnerNode<'_> {
             match field {
                 Field::Key => key = Some(from.next_value()?),
                 Field::NodeState => state = from.next_value()?,
-                Field::Left => from.next_value_seed(self.0.child(Side::Left))?,
-                Field::Right => from.next_value_seed(self.0.child(Side::Right))?,
+                Field::Left => from.next_value_seed(Subtree(nodes, Side::Left))?,
+                Field::Right => from.next_value_seed(Subtree(nodes, Side::Right))?,
                 Field::Height => height = from.next_value()?,
             }
         }
         match (key, seen.iter().position(|seen| !seen)) {
-            (Some(key), None) => self.end(key, state, height),
+            (Some(key), None) => nodes.end(side, key, state.into(), height).map_err(invalid),
             (_, missing) => Err(A::Error::missing_field(FIELDS[missing.unwrap_or(0)])),
         }
     }
@@ -256,50 +234,33 @@ struct Devices {
 }
 
 fn slots<'de, D: Deserializer<'de>>(from: D) -> Result<ReadDevices, D::Error> {
-    let push = |list: &mut ReadDevices, device: DeviceSlot| list.push(device.into());
+    let push = |list: &mut ReadDevices, crate::DeviceSlot { id, range }| {
+        let range = range.0;
+        list.push(DeviceSlot { id, range })
+    };
     from.deserialize_seq(List(ReadDevices::new(Global), push))
 }
 
-impl<'de> Deserialize<'de> for DeviceManager {
+impl<'de> Deserialize<'de> for crate::DeviceManager {
     fn deserialize<D: Deserializer<'de>>(from: D) -> Result<Self, D::Error> {
         let saved = Devices::deserialize(from)?;
-        let space = saved
-            .mmio_allocator
-            .allocator(AddressAllocator::from_nodes)?;
-        let ids = saved.id_allocator;
-        DeviceManager::from_devices(Global, saved.version, ids, space, &saved.slots)
-            .map_err(invalid)
+        let (version, ids, space) = (saved.version, saved.id_allocator, saved.mmio_allocator);
+        let space = space.allocator(AddressAllocator::from_nodes)?;
+        let made = DeviceManager::from_devices(Global, version, ids, space, &saved.slots);
+        made.map(crate::DeviceManager).map_err(invalid)
     }
 }
 
-#[derive(Deserialize)]
-#[serde(rename = "RangeMap", deny_unknown_fields)]
-#[serde(bound(deserialize = "T: Deserialize<'de>"))]
-struct Map<T> {
-    base: u64,
-    size: u64,
-    #[serde(deserialize_with = "valued_ranges")]
-    ranges: Vec<ValuedRange<T>>,
-}
-
-/// A range of a map, and its value.
-#[derive(Deserialize)]
-#[serde(deny_unknown_fields)]
-struct ValuedRange<T> {
-    range: crate::RangeInclusive,
-    value: T,
-}
-
-fn valued_ranges<'de, T: Deserialize<'de>, D: Deserializer<'de>>(
-    from: D,
-) -> Result<Vec<ValuedRange<T>>, D::Error> {
-    let push = |list: &mut Vec<_>, item| list.push(item).map_err(|_| SavedError::OutOfMemory);
-    from.deserialize_seq(List(Vec::new(Global), push))
+impl<'de, T: Deserialize<'de>> Deserialize<'de> for Vec<T> {
+    fn deserialize<D: Deserializer<'de>>(from: D) -> Result<Self, D::Error> {
+        let push = |list: &mut Vec<T>, item| list.push(item).map_err(|_| SavedError::OutOfMemory);
+        from.deserialize_seq(List(Vec::new(Global), push))
+    }
 }
 
 impl<'de, T: Deserialize<'de>> Deserialize<'de> for crate::RangeMap<T> {
     fn deserialize<D: Deserializer<'de>>(from: D) -> Result<Self, D::Error> {
-        let saved = Map::deserialize(from)?;
+        let saved: Map<Vec<ValuedRange<T>>> = Map::deserialize(from)?;
         let mut map = crate::RangeMap::try_new(saved.base, saved.size).map_err(D::Error::custom)?;
         for ValuedRange { range, value } in alloc::vec::Vec::from(saved.ranges) {
             let exact = crate::AllocPolicy::ExactMatch(range.start());

@@ -1,13 +1,13 @@
 // SPDX-License-Identifier: Apache-2.0 OR BSD-3-Clause
 //! Writes objects with serde.
 
+use super::{Map, ValuedRange};
 use crate::proved::vm_addresses::{AddressAllocator, WrittenBlocks, WrittenTree};
-use crate::proved::vm_devices::DeviceManager;
 use crate::proved::vm_ranges::NodeState;
 use crate::rattle::Global;
 use crate::TryError;
 use core::fmt;
-use serde::ser::{Error, SerializeSeq, SerializeStruct};
+use serde::ser::{Error, SerializeSeq};
 use serde::{Serialize, Serializer};
 
 /// Implements `Serialize` for structures with these fields.
@@ -40,25 +40,6 @@ write_fields! {
 mod fields;
 use fields::{List, WithBlocks};
 
-/// Returns the blocks that the tree of a space is written of, or an error of the format if memory runs
-/// out.
-fn blocks_of<E: Error>(space: &AddressAllocator) -> Result<WrittenBlocks, E> {
-    let blocks = space.written_blocks(Global);
-    blocks.map_err(|_| E::custom(TryError::OutOfMemory))
-}
-
-impl Serialize for AddressAllocator {
-    fn serialize<S: Serializer>(&self, to: S) -> Result<S::Ok, S::Error> {
-        WithBlocks(self, &blocks_of(self)?).serialize(to)
-    }
-}
-
-impl Serialize for DeviceManager {
-    fn serialize<S: Serializer>(&self, to: S) -> Result<S::Ok, S::Error> {
-        WithBlocks(self, &blocks_of(self.addresses())?).serialize(to)
-    }
-}
-
 /// A view of an object, which is serialized as the object, and without allocating memory.
 ///
 /// [`AddressAllocator::try_saved`](crate::AddressAllocator::try_saved) and
@@ -74,17 +55,24 @@ impl<T: fmt::Debug> fmt::Debug for Saved<'_, T> {
     }
 }
 
-impl Serialize for Saved<'_, crate::AddressAllocator> {
-    fn serialize<S: Serializer>(&self, to: S) -> Result<S::Ok, S::Error> {
-        WithBlocks(&self.object.0, &self.blocks).serialize(to)
-    }
+/// Implements the writing of objects and of their views.
+macro_rules! write_objects {
+    ($($object:ty),+) => {$(
+        impl Serialize for $object {
+            fn serialize<S: Serializer>(&self, to: S) -> Result<S::Ok, S::Error> {
+                self.try_saved().map_err(S::Error::custom)?.serialize(to)
+            }
+        }
+
+        impl Serialize for Saved<'_, $object> {
+            fn serialize<S: Serializer>(&self, to: S) -> Result<S::Ok, S::Error> {
+                WithBlocks(&self.object.0, &self.blocks).serialize(to)
+            }
+        }
+    )+};
 }
 
-impl Serialize for Saved<'_, crate::DeviceManager> {
-    fn serialize<S: Serializer>(&self, to: S) -> Result<S::Ok, S::Error> {
-        WithBlocks(&self.object.0, &self.blocks).serialize(to)
-    }
-}
+write_objects! { crate::AddressAllocator, crate::DeviceManager }
 
 impl<'a, T> Saved<'a, T> {
     /// Returns the view of an object with this space.
@@ -187,20 +175,10 @@ impl Serialize for NodeState {
 impl<T: Serialize> Serialize for crate::RangeMap<T> {
     fn serialize<S: Serializer>(&self, to: S) -> Result<S::Ok, S::Error> {
         let item = |(range, value)| ValuedRange { range, value };
-        let mut fields = to.serialize_struct("RangeMap", 3)?;
-        fields.serialize_field("base", &self.space().start())?;
-        fields.serialize_field("size", &self.space().len())?;
         let ranges = List(self.held_count() as usize, || self.iter().map(item));
-        fields.serialize_field("ranges", &ranges)?;
-        fields.end()
+        let (base, size) = (self.space().start(), self.space().len());
+        Map { base, size, ranges }.serialize(to)
     }
-}
-
-/// A range of a map, and its value.
-#[derive(Serialize)]
-struct ValuedRange<'a, T> {
-    range: crate::RangeInclusive,
-    value: &'a T,
 }
 
 impl<F: Fn() -> I, I: IntoIterator<Item: Serialize>> Serialize for List<F> {
