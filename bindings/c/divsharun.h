@@ -389,10 +389,10 @@ dvs_status dvs_address_allocator_with_held(uint64_t base, uint64_t size, const d
  * Errors, in order:
  * - DVS_INVALID_RANGE, with the first range that is not a valid range.
  * - DVS_OUT_OF_MEMORY if memory for a copy of the list runs out.
- * - DVS_UNDERFLOW if `count` is 0. The array can be null then.
+ * - DVS_UNDERFLOW if there is no range. The array can be null then.
  * - DVS_RESOURCE_NOT_AVAILABLE for the first range that does not start after the end
  *   of the range before it.
- * - DVS_INVALID_RANGE, with the space, if it would have all 2^64 addresses.
+ * - DVS_INVALID_RANGE, with the space, if the space would have all 2^64 addresses.
  * - DVS_OVERFLOW if there are 2^48 or more holes.
  * - DVS_OUT_OF_MEMORY.
  */
@@ -444,7 +444,7 @@ dvs_status dvs_address_allocator_space(const dvs_address_allocator *allocator, d
  * - DVS_INVALID_ALIGNMENT if `alignment` is not a power of two.
  * - DVS_RESOURCE_NOT_AVAILABLE if there is no such range.
  * - DVS_OVERFLOW if the range ends at UINT64_MAX, or if it fills only a part of its
- *   gap and at least 6,293,134,512 ranges are allocated.
+ *   gap, and if at least 6,293,134,512 ranges are allocated.
  * - DVS_OUT_OF_MEMORY.
  */
 DVS_WARN_UNUSED
@@ -475,7 +475,7 @@ dvs_status dvs_range_allocate_last(dvs_address_allocator *allocator, uint64_t si
  * - DVS_RESOURCE_NOT_AVAILABLE, with a cause, if an address of the range is
  *   allocated or outside the space.
  * - DVS_OVERFLOW if the range ends at UINT64_MAX, or if it fills only a part of its
- *   gap and at least 6,293,134,512 ranges are allocated.
+ *   gap, and if at least 6,293,134,512 ranges are allocated.
  * - DVS_OUT_OF_MEMORY.
  */
 DVS_WARN_UNUSED
@@ -587,7 +587,7 @@ dvs_status dvs_range_move_request(dvs_address_allocator *allocator, dvs_range ra
  * - DVS_RESOURCE_NOT_AVAILABLE, with a cause, if an address of the new range is
  *   allocated to another range than `range`, or is outside the space.
  * - DVS_OVERFLOW if the new range ends at UINT64_MAX, or if it fills only a part of
- *   its gap and more than 6,293,134,512 ranges are allocated.
+ *   its gap, and if more than 6,293,134,512 ranges are allocated.
  * - DVS_OUT_OF_MEMORY.
  */
 DVS_WARN_UNUSED
@@ -888,7 +888,7 @@ dvs_status dvs_id_allocate_in(dvs_id_allocator *allocator, uint32_t first, uint3
  * ascending order. The array can be null if `count` is 0.
  *
  * Errors, in order:
- * - DVS_OVERFLOW if fewer than `count` ids are free and the last id is UINT32_MAX.
+ * - DVS_OVERFLOW if fewer than `count` ids are free and the range ends at UINT32_MAX.
  * - DVS_RESOURCE_NOT_AVAILABLE if fewer than `count` ids are free otherwise.
  * - DVS_OUT_OF_MEMORY.
  */

@@ -915,6 +915,30 @@ static void lend(Owner &owner, Item item, const Owner &without) {
                   "two leases would free one item");
 }
 
+/* Runs the examples of divsharun.hpp. */
+static void show() {
+    dvs::address_allocator space;
+    std::vector<dvs::range_lease> cards;
+    std::vector<dvs_range> all;
+
+    CHECK(!space.make(0x800, 0x4000));
+    {
+        dvs_range bar;
+        if (!space.allocate_first(0x1000, 0x1000, bar))
+            cards.emplace_back(dvs::range_lease(space, bar));
+        dvs::error failed =
+            space.allocate(dvs::request::first(0x1000, 0x1000).within({0, UINT32_MAX}), bar);
+        CHECK(!failed && is_range(bar, 0x2000, 0x2fff));
+    }
+    dvs::each_range ranges;
+    if (!space.ranges_from(0, ranges))
+        for (dvs_range range : ranges)
+            all.push_back(range);
+    CHECK(all.size() == 2 && is_range(all[0], 0x1000, 0x1fff) && cards.size() == 1);
+    cards.clear();
+    CHECK(ranges_of(space).size() == 1);
+}
+
 static void lend_each() {
     dvs::address_allocator space, no_range;
     dvs::id_allocator ids, no_id;
@@ -1129,6 +1153,7 @@ int main() {
     run_out_of_memory();
     visit_each();
     lend_each();
+    show();
     throw_in_a_visit();
     count_all_and_none();
     change_in_a_visit();
