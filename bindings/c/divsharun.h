@@ -315,9 +315,8 @@ typedef struct dvs_device_manager dvs_device_manager;
 typedef struct dvs_range_map dvs_range_map;
 
 /*
- * Returns the name of a status, such as "DVS_OVERFLOW". This and the two texts below are
- * never null and have static storage duration. For a number without a meaning, the name
- * is "unknown" and the texts are "Unknown number.".
+ * Returns the name of a status, such as "DVS_OVERFLOW". This and the texts below are never
+ * null and have static storage duration. They say if a number is unknown.
  */
 const char *dvs_status_name(dvs_status status);
 

@@ -104,6 +104,8 @@ static const struct step on_none[] = {
 
 /* Several errors at once, of which the first is returned, in the order of the header. In the space
  * from 0x1000 to 0x1fff, and on devices. */
+/* divsharun.h: "The comment of a call lists the other errors in the order in which they are
+ * checked." */
 static const struct step of_errors[] = {
     {FIRST, {0, 3}, FAILS(DVS_INVALID_SIZE)},
     {FIRST, {TOP, 3}, FAILS(DVS_INVALID_ALIGNMENT)},
@@ -224,6 +226,8 @@ static const struct step of_largest_ranges[] = {
     {FREE_LENGTH, {0}, GETS_NUMBER(BELOW(3 * BASE) - PART(1))},
 };
 
+/* divsharun.h: "Errors, if all ids are allocated: DVS_OVERFLOW if the last id is UINT32_MAX, and
+ * DVS_RESOURCE_NOT_AVAILABLE otherwise." */
 /* On the ids from 5 to 7. */
 static const struct step on_ids[] = {
     {PEEK, {0}, GETS_ID(5)},
@@ -617,6 +621,8 @@ static void do_nothing(void *object) {
 
 /* Checks that a visitor can query, compare, save and copy the object, but not change or destroy it.
  * Without a context it ends the visit. */
+/* divsharun.h: "Two errors come first in every call: DVS_NULL if a pointer that must not be null
+ * is null, and DVS_BUSY" */
 static int keep_object(void *context) {
     static const uint64_t zeros[4] = {0, 0, 0, 0};
     const struct group *group = &groups[visited];
@@ -647,6 +653,7 @@ static int keep_object(void *context) {
     return *(const int *)context;
 }
 
+/* divsharun.h: "It returns 0 to continue the visit and any other number to end it." */
 /* Any number but 0 ends a visit. */
 static void change_in_visits(void) {
     static const uint64_t all[4] = {0, TOP - 1, 0, 0};
@@ -947,6 +954,7 @@ static void be_quick(void) {
 #define FIFTY(text) TEN(text) TEN(text) TEN(text) TEN(text) TEN(text)
 #define TEN(text) text text text text text text text text text text
 
+/* divsharun.h: "The maximum nesting. A value without brackets counts as a level." */
 /* Texts that are read, saved texts of the objects, and how deep a value of the text is nested. */
 static const struct {
     int call, group;
@@ -959,6 +967,19 @@ static const struct {
     {MANAGER_WITHIN, 2, MANAGER_TEXT, MANAGER_TEXT, 6},
 };
 
+/* divsharun.h: "nested at most 128 deep, without a number greater than any double and without an
+ * unpaired surrogate escape."
+ * divsharun.h: "The number of bytes before the fault. A wrong value begins there."
+ * divsharun.h: "the innermost field whose value is wrong, or which is missing or duplicate, with
+ * static storage duration. NULL for other errors, and if the value of the text is not an object or
+ * has an unknown field."
+ * divsharun.h: "- the field of the range, if the start of a range is past its end; - `key`, if the
+ * key of a node does not fit its children; - `root`, if the tree is wrong in another way; -
+ * `range_base`, if it is past `range_end`; - `next_id` or `freed_ids`, if it does not fit the
+ * other ids; - `slots`, if the devices do not fit the ids and the ranges."
+ * divsharun.h: "- the ranges are not in ascending order, overlap or leave the space; - an
+ * allocated range ends at UINT64_MAX; - a path from the root of the tree has more than 50 nodes."
+ */
 /* Texts that are not read, each with its status and its fault. */
 static const struct {
     int call;
@@ -1094,6 +1115,7 @@ static void read_texts(void) {
         check_fault(faults[i].offset, faults[i].field, faults[i].reason);
         refuse(faults[i].call - SPACE_WITHIN + READ_SPACE, NULL, faults[i].status);
     }
+    /* divsharun.h: "Limits for a text that is read. 0 is no limit." */
     /* Limits that no text exceeds. */
     for (i = 0; i < sizeof readings / sizeof readings[0]; i++) {
         give_text(readings[i].text, strlen(readings[i].text), UINT32_MAX);
@@ -1101,6 +1123,9 @@ static void read_texts(void) {
         CHECK(attempt(readings[i].call, NULL, bad) == DVS_OK);
         destroy(readings[i].group, created(readings[i].group));
     }
+    /* divsharun.h: "DVS_LIMIT_EXCEEDED if the text is longer than the limit. Otherwise those of
+     * dvs_address_allocator_read(), with DVS_LIMIT_EXCEEDED instead of DVS_NOT_JSON if the text
+     * first exceeds the limit of nesting." */
     /* The limit of nesting holds behind a fault. */
     give_text("{\"base\":[[1]]}", 14, 4);
     refuse(IDS_WITHIN, NULL, DVS_NOT_A_STATE);
@@ -1200,8 +1225,11 @@ static void say_words(void) {
         CHECK(strcmp(dvs_status_text(unknown[i]), "Unknown number.") == 0);
         CHECK(strcmp(dvs_cause_text(unknown[i]), "Unknown number.") == 0);
     }
+    /* divsharun.h: "DVS_VERSION_NUMBER is 10000 * major + 100 * minor + patch." */
     sprintf(version, "%d.%d.%d", DVS_VERSION_MAJOR, DVS_VERSION_MINOR, DVS_VERSION_PATCH);
     CHECK(strcmp(version, DVS_VERSION_TEXT) == 0 && strcmp(version, dvs_version_text()) == 0);
+    CHECK(DVS_VERSION_NUMBER ==
+          10000 * DVS_VERSION_MAJOR + 100 * DVS_VERSION_MINOR + DVS_VERSION_PATCH);
 }
 
 int main(void) {
