@@ -228,6 +228,7 @@ static const struct step of_largest_ranges[] = {
 
 /* divsharun.h: "Errors, if all ids are allocated: DVS_OVERFLOW if the last id is UINT32_MAX, and
  * DVS_RESOURCE_NOT_AVAILABLE otherwise." */
+
 /* On the ids from 5 to 7. */
 static const struct step on_ids[] = {
     {PEEK, {0}, GETS_ID(5)},
@@ -654,6 +655,7 @@ static int keep_object(void *context) {
 }
 
 /* divsharun.h: "It returns 0 to continue the visit and any other number to end it." */
+
 /* Any number but 0 ends a visit. */
 static void change_in_visits(void) {
     static const uint64_t all[4] = {0, TOP - 1, 0, 0};
@@ -955,6 +957,7 @@ static void be_quick(void) {
 #define TEN(text) text text text text text text text text text text
 
 /* divsharun.h: "The maximum nesting. A value without brackets counts as a level." */
+
 /* Texts that are read, saved texts of the objects, and how deep a value of the text is nested. */
 static const struct {
     int call, group;
@@ -980,6 +983,7 @@ static const struct {
  * divsharun.h: "- the ranges are not in ascending order, overlap or leave the space; - an
  * allocated range ends at UINT64_MAX; - a path from the root of the tree has more than 50 nodes."
  */
+
 /* Texts that are not read, each with its status and its fault. */
 static const struct {
     int call;

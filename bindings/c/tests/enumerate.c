@@ -324,6 +324,7 @@ static void visit_within(const dvs_address_allocator *space, dvs_range within, v
 /* divsharun.h: "So the first one contains `address` or is the next one above it."
  * divsharun.h: "at or below `address`, in descending order, like dvs_range_visit(). Each of them
  * is passed whole. So the first one contains `address` or is the next one below it." */
+
 /* Compares the visits from an address, up and down, with a visit of all ranges or gaps. */
 static void visit_from(const dvs_address_allocator *space, uint64_t address, visit_all *all,
                        visit_at *up, visit_at *down) {
@@ -485,6 +486,7 @@ static bool is_invalid(dvs_status status) {
 
 /* divsharun.h: "`failed` receives the index of the member of an array that has the error. If no
  * member has one, also with DVS_OK, it receives the length of the array." */
+
 /* Allocates lists with two faults. The first one that is invalid is returned, or else the first. */
 static void allocate_none(void) {
     static const dvs_range backwards = {5, 4}, outside = {0x4000, UINT64_MAX};

@@ -190,6 +190,7 @@ static bool refuse_one(const struct row *row, bool is_empty, unsigned long numbe
 }
 
 /* divsharun.h: "This is the last error, except in a call that reads a text or takes an array." */
+
 /* Fails each allocation of a call in turn, until a run has no failed allocation. */
 static void refuse_in_turn(const struct row *row) {
     unsigned long number = 1;
@@ -206,6 +207,7 @@ static void refuse_in_turn(const struct row *row) {
 /* divsharun.h: "Freeing a range, dvs_id_allocate() and queries do not allocate memory."
  * divsharun.h: "Memory is allocated only if there are some, or if the ids right below and right
  * above the id are both freed ids." */
+
 /* Calls that do not allocate, because of an error, because a range fills its gap, or in all cases,
  * and their statuses. A request has its members as numbers. */
 static const struct {
@@ -305,6 +307,7 @@ enum { RANGES = 20000 };
 
 /* divsharun.h: "Saving and reading allocate less than 100 bytes for each allocated range, freed id
  * and device, beyond the text and the object." */
+
 /* The maximum numbers of bytes for each range, which are below the limit of the header. Saving
  * lists the range and its gap in 24 bytes each. Reading lists the range in 16 bytes, and an eighth
  * more. A text can be refused when the tree is built. */
@@ -415,6 +418,7 @@ static const char *const deep[] = {"[[[[[[0]]]]]]", "{\"a\":{\"\":[{}]}}", "[[],
 
 /* divsharun.h: "This is also true for an untrusted text, and nothing is allocated after its first
  * fault." */
+
 /* Checks that a text that encodes no object is refused without an allocation. */
 static void refuse_without_memory(void) {
     dvs_address_allocator *made;

@@ -144,6 +144,7 @@ static const struct row refused[] = {
 
 /* divsharun.h: "A `start` of 0 is no lower limit. An `end` of UINT64_MAX is no upper limit. With
  * neither limit there is no window, as with NULL." */
+
 /* In the space from 0 to 0xff. */
 static const struct row at_zero[] = {
     {DVS_FIRST, 1, 1, 0, {0, 0}, GETS(0, 0)},
@@ -161,6 +162,7 @@ static const struct row at_zero[] = {
  * is free."
  * divsharun.h: "A window that ends before UINT64_MAX avoids the DVS_OVERFLOW of a range that ends
  * there." */
+
 /* In the space of the 256 addresses up to UINT64_MAX. */
 static const struct row at_top[] = {
     {DVS_FIRST, 1, 1, 0, {TOP, TOP}, FAILS(DVS_OVERFLOW)},
@@ -180,6 +182,7 @@ static const struct row at_top[] = {
 };
 
 /* divsharun.h: "An address is allocated. `other` is the lowest allocated range that has one." */
+
 /* Requests without a window. */
 static const struct row in_the_way[] = {
     {DVS_EXACT, 1, 1, 0xfff, {0, TOP}, BLOCKED(OUTSIDE_SPACE)},
@@ -222,6 +225,7 @@ static const struct row of_largest[] = {
 };
 
 /* divsharun.h: "But the errors of an invalid request precede those of the id." */
+
 /* In a manager whose id UINT32_MAX is allocated. An error of the id precedes that of the range. */
 static const struct row without_ids[] = {
     {DVS_EXACT + 1, 0, 3, 1, {9, 8}, FAILS(DVS_INVALID_POLICY)},
@@ -277,6 +281,7 @@ static const struct {
 
 /* divsharun.h: "With a cause: the requested range, or 0 to 0 if it has no given start or would end
  * past UINT64_MAX." */
+
 /* Returns the outcome of a row, with the requested range and the one that the cause names. */
 static struct outcome outcome_of(const struct row *row, dvs_range space) {
     struct outcome all = row->outcome;
