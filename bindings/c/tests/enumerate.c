@@ -503,6 +503,8 @@ static void allocate_none(void) {
         {{0x1000, 1, 0, DVS_LAST, NULL}, DVS_RESOURCE_NOT_AVAILABLE, 0, {0, 0}},
         {{1, 1, 0, DVS_FIRST, &outside}, NO_PLACE(OUTSIDE_SPACE), {0, 0x3fff}},
         /* The first two requests have 0 to 0xfff and 0x2000 to 0x27ff. */
+        /* divsharun.h: "An address is in the range of an earlier request of the same call. `other`
+         * is 0 to 0." */
         {{1, 1, 0xfff, DVS_EXACT, NULL}, NO_PLACE(EARLIER_REQUEST), {0, 0}},
         {{0x900, 1, 0x2700, DVS_EXACT, NULL}, NO_PLACE(EARLIER_REQUEST), {0, 0}},
         {{0x2000, 1, 0x800, DVS_EXACT, NULL}, NO_PLACE(ALLOCATED), {0x1000, 0x1fff}},

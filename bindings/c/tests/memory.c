@@ -308,6 +308,9 @@ enum { RANGES = 20000 };
 /* divsharun.h: "Saving and reading allocate less than 100 bytes for each allocated range, freed id
  * and device, beyond the text and the object." */
 
+/* src/lib.rs: "An item has at most 24 bytes. A list of ranges has at most an eighth more capacity
+ * than it needs" */
+
 /* The maximum numbers of bytes for each range, which are below the limit of the header. Saving
  * lists the range and its gap in 24 bytes each. Reading lists the range in 16 bytes, and an eighth
  * more. A text can be refused when the tree is built. */

@@ -101,6 +101,8 @@ static const struct row at_ends[] = {
     {DVS_LAST, 0x10, 1, 0, {0, TOP}, GETS(0x1ff0, 0x1fff)},
     {DVS_EXACT, 0x10, 1, 0x1500, {0, TOP}, GETS(0x1500, 0x150f)},
     {DVS_EXACT, 0x100, 1, 0x1400, {0, TOP}, TELLS(DVS_INVALID_STATE_TRANSITION, 0x1400, 0x14ff)},
+    /* divsharun.h: "For a request at alignment 1 without a window, DVS_FIRST and DVS_LAST return
+     * DVS_RESOURCE_NOT_AVAILABLE if and only if its size is more than this length." */
     {DVS_FIRST, 0x701, 1, 0, {0, TOP}, NO_PLACE},
 };
 
@@ -243,6 +245,9 @@ static const struct row without_id[] = {
     {DVS_EXACT, 0x10, 1, 0x1400, {0, TOP}, NO_PLACE},
     {DVS_EXACT, 0x10, 1, 0x1500, {0, 0xfff}, NO_PLACE},
 };
+
+/* divsharun.h: "This is dvs_range_move_request() for as many addresses at `start`, at alignment 1
+ * and without a window. So it does not check the alignment and the window of the first request." */
 
 /* Moves of a range in a space of 256 units, of which the units 4 and 5 are allocated. */
 #define UNIT ((uint64_t)1 << 32)

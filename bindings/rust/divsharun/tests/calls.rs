@@ -758,6 +758,8 @@ type Written = (
     &'static str,
 );
 
+// src/layout.rs: "space ends below 2^16, it writes addresses of four digits, like `/proc/ioports`."
+
 /// Checks that addresses have at least four digits if the last one is below 2^16, and at least
 /// eight otherwise.
 const LAYOUTS: [Written; 7] = [
