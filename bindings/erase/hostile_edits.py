@@ -163,7 +163,7 @@ def faults_of_second(project, plain):
     """Returns the edits of a written module that second_eraser.py accepts, and an output that it rejects."""
     text = plain.read_text("utf-8")
     wrong = []
-    for old, new in [("", ""), ("self.end", "self.start"), ("}\n", "}\nfn more() { 1 }\n"), ("&&", "||"), (text, "")]:
+    for old, new in [("", ""), ("self.end", "self.start"), ("}\n", "}\nfn more() { 1 }\n"), ("&&", "||"), ("use ", "use core::cmp::max;\nuse "), (text, "")]:
         plain.write_text(text.replace(old, new, 1), "utf-8")
         second = subprocess.run([sys.executable, SECOND, project, plain.parent.parent], capture_output=True, check=False)
         wrong += [f"second_eraser.py ends with {second.returncode} for {new}"] * (second.returncode != int(old != new))

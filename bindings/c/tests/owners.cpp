@@ -213,10 +213,12 @@ static void reserve_in_windows() {
     CHECK(devices.reserve_with_id(6, 6, request::first(8, 8), device, &refusal) ==
           dvs::code(DVS_RESOURCE_NOT_AVAILABLE));
     CHECK(!devices.release(5));
-    CHECK(!devices.reserve_with_id(5, 5, request::last(8, 8), device) && device.id == 5);
+    CHECK(!devices.reserve_with_id(5, 5, request::last(8, 8).within({0, 40}), device));
+    CHECK(device.id == 5 && is_range(device.range, 32, 39));
     dvs_range moved;
     CHECK(devices.move(9, request::first(8, 8), moved) == dvs::code(DVS_NEVER_ALLOCATED));
     CHECK(!devices.move(5, request::exact(16, 8, 48), moved) && is_range(moved, 48, 63));
+    CHECK(!devices.move(5, request::last(8, 8).within({0, 40}), moved) && moved.start == 32);
     CHECK(!devices.move(5, request::last(8, 8), moved));
     CHECK(!space.make_copy_of(devices.get()) && ranges_of(space).size() == 2);
     CHECK(is_range(ranges_of(space)[1], 56, 63));
@@ -303,7 +305,8 @@ static void keep_values() {
     CHECK(!map.at(31, found) && found.value == 7 && is_range(found.range, 24, 31));
     CHECK(map.at(32, found) == DVS_RESOURCE_NOT_AVAILABLE && found.value == 7);
     CHECK(!other.make_copy(map) && other == map && !other.set(24, 8, number) && number == 7);
-    CHECK(other != map && !map.move(range, request::first(8, 8), range) && range.start == 0);
+    CHECK(!other.move(range, request::first(8, 8).within({9, 63}), range) && range.start == 16);
+    CHECK(other != map && !map.move({24, 31}, request::first(8, 8), range) && range.start == 0);
     CHECK(!map.allocate(9, request::first(8, 8), range) && !map.range_count(number) && number == 2);
     CHECK(!map.ranges(all) && all.size() == 2 && all[0].value == 7 && all[1].value == 9);
     CHECK(!map.for_each([&](dvs_valued_range one) {
@@ -510,6 +513,7 @@ static void pass_large_numbers() {
     CHECK(!space.allocate_exact(much - 1, much, top - much + 1, range) && range.end == top - 1);
     CHECK(!space.is_allocated(range, is_allocated) && is_allocated);
     CHECK(space.allocate_exact(1, 1, top, moved) == DVS_OVERFLOW);
+    CHECK(space.allocate(request::last(1, 1), moved) == DVS_OVERFLOW);
     CHECK(!space.conflict(request::exact(much, much, half), refusal));
     CHECK(refusal.other.start == half);
     CHECK(!space.allocate(request::first(much, half / 2), range) && range.start == half / 2);
