@@ -472,7 +472,7 @@ dvs_status dvs_range_allocate_last(dvs_address_allocator *allocator, uint64_t si
  * - DVS_INVALID_STATE_TRANSITION, with the range, if exactly this range is
  *   already allocated.
  * - DVS_RESOURCE_NOT_AVAILABLE, with a cause, if an address of the range is
- *   allocated or outside the space.
+ *   allocated, or outside the space.
  * - DVS_OVERFLOW if the range ends at UINT64_MAX, or if it fills only a part of its
  *   gap, and if at least 6,293,134,512 ranges are allocated.
  * - DVS_OUT_OF_MEMORY.
@@ -496,7 +496,8 @@ dvs_status dvs_range_allocate_exact(dvs_address_allocator *allocator, uint64_t s
  * - DVS_INVALID_ALIGNMENT if `alignment` is not a power of two.
  * - DVS_UNALIGNED_ADDRESS if the start of DVS_EXACT is not a multiple of
  *   `alignment`.
- * - DVS_INVALID_RANGE, with the window, if its start is past its end.
+ * - DVS_INVALID_RANGE, with the window, if the last address of the window is below
+ *   the first.
  * - The other errors of dvs_range_allocate_first(), _last() or _exact(), in the
  *   same order. Addresses outside the window count as outside the space. So no
  *   range fits if the window and the space have no address in common.
@@ -581,10 +582,10 @@ dvs_status dvs_range_move_request(dvs_address_allocator *allocator, dvs_range ra
  * - DVS_OVERFLOW if `start` is UINT64_MAX.
  * - DVS_RESOURCE_NOT_AVAILABLE, with a cause, if `start` is outside the space.
  * - DVS_OVERFLOW if the new range would end past UINT64_MAX.
- * - DVS_INVALID_STATE_TRANSITION, with the new range, if exactly that range is
+ * - DVS_INVALID_STATE_TRANSITION, with the new range, if exactly the new range is
  *   already allocated, and is not `range`.
  * - DVS_RESOURCE_NOT_AVAILABLE, with a cause, if an address of the new range is
- *   allocated to another range than `range`, or is outside the space.
+ *   allocated to another range than `range`, or outside the space.
  * - DVS_OVERFLOW if the new range ends at UINT64_MAX, or if it fills only a part of
  *   its gap, and if more than 6,293,134,512 ranges are allocated.
  * - DVS_OUT_OF_MEMORY.
@@ -828,8 +829,9 @@ dvs_status dvs_id_allocator_new(uint32_t first, uint32_t last, dvs_id_allocator 
  * Errors, in order:
  * - DVS_INVALID_RANGE, with both ids, if `last` is less than `first`.
  * - For the first id that is wrong:
- *   - DVS_OUT_OF_RANGE, with the id, if it is not between the first and the last.
- *   - DVS_RESOURCE_NOT_AVAILABLE, with the id, if it is not greater than the id before it.
+ *   - DVS_OUT_OF_RANGE, with the id, if the id is outside the range.
+ *   - DVS_RESOURCE_NOT_AVAILABLE, with the id, if the id is not greater than the id
+ *     before it.
  * - DVS_OUT_OF_MEMORY.
  */
 DVS_WARN_UNUSED
@@ -862,8 +864,8 @@ dvs_status dvs_id_allocate(dvs_id_allocator *allocator, uint32_t *id);
  * id are both freed ids.
  *
  * Errors, in order:
- * - DVS_OUT_OF_RANGE, with the id, if it is not between the first and the last.
- * - DVS_RESOURCE_NOT_AVAILABLE, with the id, if it is already allocated.
+ * - DVS_OUT_OF_RANGE, with the id, if the id is outside the range.
+ * - DVS_RESOURCE_NOT_AVAILABLE, with the id, if the id is already allocated.
  * - DVS_OUT_OF_MEMORY.
  */
 DVS_WARN_UNUSED
@@ -875,7 +877,7 @@ dvs_status dvs_id_allocate_exact(dvs_id_allocator *allocator, uint32_t id, dvs_r
  *
  * Errors, in order:
  * - DVS_INVALID_RANGE, with both ids, if `last` is less than `first`.
- * - DVS_RESOURCE_NOT_AVAILABLE if no id from `first` to `last` is free.
+ * - DVS_RESOURCE_NOT_AVAILABLE if no id from `first` to `last` is in the range and free.
  * - DVS_OUT_OF_MEMORY.
  */
 DVS_WARN_UNUSED
@@ -888,7 +890,8 @@ dvs_status dvs_id_allocate_in(dvs_id_allocator *allocator, uint32_t first, uint3
  *
  * Errors, in order:
  * - DVS_OVERFLOW if fewer than `count` ids are free and the range ends at UINT32_MAX.
- * - DVS_RESOURCE_NOT_AVAILABLE if fewer than `count` ids are free otherwise.
+ * - DVS_RESOURCE_NOT_AVAILABLE if fewer than `count` ids are free and the range ends below
+ *   UINT32_MAX.
  * - DVS_OUT_OF_MEMORY.
  */
 DVS_WARN_UNUSED
@@ -905,7 +908,7 @@ dvs_status dvs_id_peek(const dvs_id_allocator *allocator, uint32_t *id);
  * Frees an allocated id.
  *
  * Errors, in order, each with the id:
- * - DVS_OUT_OF_RANGE if the id is not between the first and the last.
+ * - DVS_OUT_OF_RANGE if the id is outside the range.
  * - DVS_NEVER_ALLOCATED if the id was never allocated.
  * - DVS_ALREADY_RELEASED if the id is already freed.
  * - DVS_OUT_OF_MEMORY, without an id.
