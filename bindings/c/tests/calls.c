@@ -901,6 +901,17 @@ static clock_t time_quick(const struct quick *row, void *object, uint64_t count)
     return clock() - begun;
 }
 
+/* divsharun.h: "Calls on one id, device or range of a map take logarithmic time too, also if they
+ * skip ids. If such a call makes the list of freed ids, of devices or of values longer, it can
+ * also move the list, in linear time. Counts, dvs_longest_gap() and the ends of a space or of a
+ * range of ids take constant time." */
+
+/* divsharun.h: "Let k be the number of allocated ranges. Allocating, moving and freeing a range
+ * takes time of the order of log k, and so do dvs_range_conflict(), dvs_range_is_allocated(),
+ * dvs_range_at() and dvs_gap_at(). An alignment can make the search for a range visit more gaps. A
+ * visit within a range or from an address takes time of the order of log k, plus the number of
+ * allocated ranges and gaps up to where it ends." */
+
 /* Compares the shortest times in small and in large objects. A linear call takes a hundred times as
  * long. */
 static void be_quick(void) {
