@@ -323,6 +323,7 @@ fn ranges_are_read_from_their_texts() {
         "0x-5",
         "0X5-7",
         "0x+5-7",
+        "0x0x5-7",
         "g-7",
         "0-ffffffffffffffff",
         "5-10000000000000000",

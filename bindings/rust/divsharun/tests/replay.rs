@@ -256,6 +256,7 @@ fn the_program_reads_its_input_or_a_file() {
         (&["--help"], 0, HELP, ""),
         (&["--unknown"], 2, "", USAGE),
         (&[file, file], 2, "", USAGE),
+        (&[file, "--"], 2, "", USAGE),
         (&["--help", file], 2, "", USAGE),
         (&["--version", file], 2, "", USAGE),
         (&["-h"], 2, "", USAGE),
