@@ -119,6 +119,13 @@ static const struct step of_errors[] = {
     {EXACT, {TOP, 1, 0x1000}, FAILS(DVS_OVERFLOW)},
 };
 
+/* divsharun.h: "Allocates the lowest free range of `size` addresses that starts at a multiple of
+ * `alignment`, and writes it to `range`."
+ * divsharun.h: "Allocates the highest free range of `size` addresses that starts at a multiple of
+ * `alignment`."
+ * divsharun.h: "Writes the first and the last address of the space to `space`."
+ * divsharun.h: "Writes the length of the longest gap to `length`, or 0 if there is none." */
+
 /* In the space from 0x1000 to 0x1fff. */
 static const struct step on_space[] = {
     {EXACT, {1, 1, 0xfff}, IN_THE_WAY(0xfff, 0xfff, OUTSIDE_SPACE, 0x1000, 0x1fff)},
@@ -258,6 +265,11 @@ static const struct step on_last_id[] = {
 
 static const struct step on_all_ids[] = {{FREE_COUNT, {0}, GETS_NUMBER((uint64_t)1 << 32)}};
 
+/* divsharun.h: "Allocates the lowest free id and writes it to `id`."
+ * divsharun.h: "Allocates this id. Unused ids below it become freed ids, as if they had been
+ * allocated and freed."
+ * divsharun.h: "Allocates the lowest free id from `first` to `last`, both included" */
+
 /* On the ids from 5 to 23. */
 static const struct step of_given_ids[] = {
     {ID_EXACT, {24}, TELLS_ID(DVS_OUT_OF_RANGE, 24)},
@@ -273,6 +285,9 @@ static const struct step of_given_ids[] = {
     {ID_IN, {9, UINT32_MAX}, GETS_ID(9)},
     {FREE_COUNT, {0}, GETS_NUMBER(15)},
 };
+
+/* divsharun.h: "Allocates the lowest free id and the range of dvs_range_allocate_first() for a new
+ * device" */
 
 /* For the ids from 1 to 3, and the space from 0x1000 to 0x1fff. */
 static const struct step on_devices[] = {

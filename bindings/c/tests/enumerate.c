@@ -69,6 +69,7 @@ static dvs_address_allocator *two_held(void) {
     return space;
 }
 
+/* divsharun.h: "They must be in ascending order. `held` can be null if `count` is 0." */
 static void make_with_ranges(void) {
     dvs_address_allocator *space = two_held();
     struct seen seen = all_of();
@@ -131,6 +132,10 @@ static void refuse_ranges(void) {
                                    : 0));
     }
 }
+
+/* divsharun.h: "They must be in ascending order, and share no address."
+ * divsharun.h: "The space is from the first address of the first range to the last address of the
+ * last one. Each hole between the ranges is an allocated range, and can be freed." */
 
 /* The first two ranges have no hole between them. */
 static void make_with_free(void) {
@@ -236,6 +241,7 @@ static void refuse_counts(void) {
 
 /* ---- Look-ups ---- */
 
+/* divsharun.h: "Calls `visitor` with each allocated range, in ascending order." */
 static void look_up_ranges(void) {
     dvs_address_allocator *space = two_held();
     static const uint64_t clear[] = {0, 0xfff, 0x2000, 0x2fff, 0x3800, 0x3fff, 0x4000, UINT64_MAX};
@@ -304,6 +310,8 @@ typedef dvs_status visit_at(const dvs_address_allocator *space, uint64_t address
                             dvs_range_visitor *visitor, void *context);
 typedef dvs_status visit_part(const dvs_address_allocator *space, dvs_range within,
                               dvs_range_visitor *visitor, void *context, dvs_refusal *refusal);
+
+/* divsharun.h: "Visits the allocated ranges that have an address at or above `address`" */
 
 /* Compares a visit within a range with a visit of all ranges or gaps. */
 static void visit_within(const dvs_address_allocator *space, dvs_range within, visit_all *all,
@@ -416,6 +424,9 @@ static void nest_visits(void) {
 
 /* ---- Several requests ---- */
 
+/* divsharun.h: "Each range is the one that dvs_range_allocate() would allocate after the requests
+ * before it."
+ * divsharun.h: "For the first request that is invalid for every allocator: DVS_INVALID_POLICY" */
 static void allocate_all(void) {
     dvs_address_allocator *space = two_held();
     dvs_request requests[3];
@@ -555,6 +566,8 @@ static void allocate_none(void) {
 
 /* ---- Ids and devices ---- */
 
+/* divsharun.h: "Visits the allocated ids in ascending order"
+ * divsharun.h: "They must be in ascending order. The array can be null if `count` is 0." */
 static void visit_ids(void) {
     dvs_id_allocator *ids;
     struct seen seen = all_of();
@@ -602,6 +615,7 @@ static void allocate_several_ids(void) {
     dvs_id_allocator_destroy(ids);
 }
 
+/* divsharun.h: "Visits the devices in ascending order of ids" */
 static void look_up_devices(void) {
     dvs_device_manager *manager;
     struct seen seen = all_of();
@@ -639,6 +653,10 @@ static int see_valued(void *context, dvs_valued_range found) {
 }
 
 enum map_call { ALLOCATE, FREE, MOVE, GET, SET };
+
+/* divsharun.h: "Replaces the value of the allocated range that contains the address, and writes
+ * the value before to `before`."
+ * divsharun.h: "Visits the allocated ranges with their values in ascending order" */
 
 /* Calls of a map of the addresses 16 to 79, the range that is given, and what is returned. */
 static const struct map_row {

@@ -458,6 +458,8 @@ static void loop() {
     CHECK(ranges_of(space).size() == 1 && gaps_of(space).size() == 1);
 }
 
+/* divsharun.hpp: "the next item is the first one that has an address above the last item" */
+
 /* Calls `replace` at the first item of a loop over 1, 3 and 5. The loop goes on in the new object.
  */
 template <typename Replace> static void replace_in_a_loop(Replace replace) {
@@ -1040,6 +1042,9 @@ static void keep_in_a_visit(Owner &owner, Change change) {
     CHECK(!owner.adopt(second.detach()) && owner == before && !owner.make_copy(before));
 }
 
+/* divsharun.hpp: "A method that replaces the object returns DVS_BUSY, after every other error,
+ * during a visit of the object." */
+
 /* Calls each other method that changes an object, also with nothing to do. */
 static void change_in_a_visit() {
     using dvs::request;
@@ -1100,6 +1105,8 @@ static void change_in_a_visit() {
         CHECK(devices.make(5, 9, 0, 0) == DVS_UNDERFLOW && device.id == 5);
     });
 }
+
+/* divsharun.hpp: "A move assignment exchanges two objects, so that none is lost." */
 
 /* A visitor replaces the owner of the object that it visits. */
 static void replace_in_a_visit() {

@@ -35,6 +35,8 @@ struct row {
 /* In the space from 0x1000 to 0x1fff, with the ranges of `held` allocated. */
 static const dvs_range held[] = {{0x1400, 0x14ff}, {0x1800, 0x18ff}};
 
+/* divsharun.h: "DVS_FIRST allocates the lowest range in the window of the request, and DVS_LAST
+ * the highest. DVS_EXACT allocates the range that starts at `start`, if it lies in the window." */
 static const struct row in_gaps[] = {
     /* A gap. */
     {DVS_FIRST, 0x100, 0x100, 0, {0x1500, 0x17ff}, GETS(0x1500, 0x15ff)},
