@@ -165,6 +165,9 @@ static void give(int group) {
     given.length = lengths[group];
 }
 
+/* divsharun.h: "If memory runs out, a call returns DVS_OUT_OF_MEMORY. It frees what it has made,
+ * or keeps it for later calls on the object. No call ends the process then." */
+
 /* Makes a call of which this allocation fails. Returns whether it has fewer allocations. */
 static bool refuse_one(const struct row *row, bool is_empty, unsigned long number) {
     bool is_done;

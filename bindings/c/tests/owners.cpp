@@ -1129,6 +1129,8 @@ static void replace_in_a_visit() {
     CHECK(!other.adopt(object) && gaps_of(other).size() == 1);
 }
 
+/* divsharun.hpp: "The destructor of an owner destroys nothing during a visit of the object." */
+
 /* Destroys an owner in a visit. The object exists after it. */
 static void destroy_in_a_visit() {
     dvs::address_allocator *owner = new dvs::address_allocator, kept;
