@@ -38,6 +38,10 @@ const MISSING: &str = "No such file or directory (os error 2)";
 // `done`"
 // REPLAY.md: "`device N A` | does `id` and `first N A` in the manager, both or neither | `device ID
 // START END`"
+// REPLAY.md: "`free START END` | frees the range | `done`"
+// REPLAY.md: "`unid N` | frees the id | `id N`"
+// REPLAY.md: "`has N` | checks if the id is allocated | `yes` or `no`"
+// REPLAY.md: "`undevice ID` | frees the device's id and range | `done`"
 /// Lines, and the result of each.
 const LINES: [(&str, &str); 14] = [
     ("first 256 256", "error no-space"),
