@@ -315,9 +315,8 @@ typedef struct dvs_device_manager dvs_device_manager;
 typedef struct dvs_range_map dvs_range_map;
 
 /*
- * Returns the name of a status, such as "DVS_OVERFLOW". This and the two texts below are
- * never null and have static storage duration. For a number without a meaning, the name
- * is "unknown" and the texts are "Unknown number.".
+ * Returns the name of a status, such as "DVS_OVERFLOW". This and the texts below are never
+ * null and have static storage duration. They say if a number is unknown.
  */
 const char *dvs_status_name(dvs_status status);
 
@@ -389,10 +388,10 @@ dvs_status dvs_address_allocator_with_held(uint64_t base, uint64_t size, const d
  * Errors, in order:
  * - DVS_INVALID_RANGE, with the first range that is not a valid range.
  * - DVS_OUT_OF_MEMORY if memory for a copy of the list runs out.
- * - DVS_UNDERFLOW if `count` is 0. The array can be null then.
+ * - DVS_UNDERFLOW if there is no range. The array can be null then.
  * - DVS_RESOURCE_NOT_AVAILABLE for the first range that does not start after the end
  *   of the range before it.
- * - DVS_INVALID_RANGE, with the space, if it would have all 2^64 addresses.
+ * - DVS_INVALID_RANGE, with the space, if the space would have all 2^64 addresses.
  * - DVS_OVERFLOW if there are 2^48 or more holes.
  * - DVS_OUT_OF_MEMORY.
  */
@@ -444,7 +443,7 @@ dvs_status dvs_address_allocator_space(const dvs_address_allocator *allocator, d
  * - DVS_INVALID_ALIGNMENT if `alignment` is not a power of two.
  * - DVS_RESOURCE_NOT_AVAILABLE if there is no such range.
  * - DVS_OVERFLOW if the range ends at UINT64_MAX, or if it fills only a part of its
- *   gap and at least 6,293,134,512 ranges are allocated.
+ *   gap, and if at least 6,293,134,512 ranges are allocated.
  * - DVS_OUT_OF_MEMORY.
  */
 DVS_WARN_UNUSED
@@ -473,9 +472,9 @@ dvs_status dvs_range_allocate_last(dvs_address_allocator *allocator, uint64_t si
  * - DVS_INVALID_STATE_TRANSITION, with the range, if exactly this range is
  *   already allocated.
  * - DVS_RESOURCE_NOT_AVAILABLE, with a cause, if an address of the range is
- *   allocated or outside the space.
+ *   allocated, or outside the space.
  * - DVS_OVERFLOW if the range ends at UINT64_MAX, or if it fills only a part of its
- *   gap and at least 6,293,134,512 ranges are allocated.
+ *   gap, and if at least 6,293,134,512 ranges are allocated.
  * - DVS_OUT_OF_MEMORY.
  */
 DVS_WARN_UNUSED
@@ -497,7 +496,8 @@ dvs_status dvs_range_allocate_exact(dvs_address_allocator *allocator, uint64_t s
  * - DVS_INVALID_ALIGNMENT if `alignment` is not a power of two.
  * - DVS_UNALIGNED_ADDRESS if the start of DVS_EXACT is not a multiple of
  *   `alignment`.
- * - DVS_INVALID_RANGE, with the window, if its start is past its end.
+ * - DVS_INVALID_RANGE, with the window, if the last address of the window is below
+ *   the first.
  * - The other errors of dvs_range_allocate_first(), _last() or _exact(), in the
  *   same order. Addresses outside the window count as outside the space. So no
  *   range fits if the window and the space have no address in common.
@@ -582,12 +582,12 @@ dvs_status dvs_range_move_request(dvs_address_allocator *allocator, dvs_range ra
  * - DVS_OVERFLOW if `start` is UINT64_MAX.
  * - DVS_RESOURCE_NOT_AVAILABLE, with a cause, if `start` is outside the space.
  * - DVS_OVERFLOW if the new range would end past UINT64_MAX.
- * - DVS_INVALID_STATE_TRANSITION, with the new range, if exactly that range is
+ * - DVS_INVALID_STATE_TRANSITION, with the new range, if exactly the new range is
  *   already allocated, and is not `range`.
  * - DVS_RESOURCE_NOT_AVAILABLE, with a cause, if an address of the new range is
- *   allocated to another range than `range`, or is outside the space.
+ *   allocated to another range than `range`, or outside the space.
  * - DVS_OVERFLOW if the new range ends at UINT64_MAX, or if it fills only a part of
- *   its gap and more than 6,293,134,512 ranges are allocated.
+ *   its gap, and if more than 6,293,134,512 ranges are allocated.
  * - DVS_OUT_OF_MEMORY.
  */
 DVS_WARN_UNUSED
@@ -829,8 +829,9 @@ dvs_status dvs_id_allocator_new(uint32_t first, uint32_t last, dvs_id_allocator 
  * Errors, in order:
  * - DVS_INVALID_RANGE, with both ids, if `last` is less than `first`.
  * - For the first id that is wrong:
- *   - DVS_OUT_OF_RANGE, with the id, if it is not between the first and the last.
- *   - DVS_RESOURCE_NOT_AVAILABLE, with the id, if it is not greater than the id before it.
+ *   - DVS_OUT_OF_RANGE, with the id, if the id is outside the range.
+ *   - DVS_RESOURCE_NOT_AVAILABLE, with the id, if the id is not greater than the id
+ *     before it.
  * - DVS_OUT_OF_MEMORY.
  */
 DVS_WARN_UNUSED
@@ -863,8 +864,8 @@ dvs_status dvs_id_allocate(dvs_id_allocator *allocator, uint32_t *id);
  * id are both freed ids.
  *
  * Errors, in order:
- * - DVS_OUT_OF_RANGE, with the id, if it is not between the first and the last.
- * - DVS_RESOURCE_NOT_AVAILABLE, with the id, if it is already allocated.
+ * - DVS_OUT_OF_RANGE, with the id, if the id is outside the range.
+ * - DVS_RESOURCE_NOT_AVAILABLE, with the id, if the id is already allocated.
  * - DVS_OUT_OF_MEMORY.
  */
 DVS_WARN_UNUSED
@@ -876,7 +877,7 @@ dvs_status dvs_id_allocate_exact(dvs_id_allocator *allocator, uint32_t id, dvs_r
  *
  * Errors, in order:
  * - DVS_INVALID_RANGE, with both ids, if `last` is less than `first`.
- * - DVS_RESOURCE_NOT_AVAILABLE if no id from `first` to `last` is free.
+ * - DVS_RESOURCE_NOT_AVAILABLE if no id from `first` to `last` is in the range and free.
  * - DVS_OUT_OF_MEMORY.
  */
 DVS_WARN_UNUSED
@@ -888,8 +889,9 @@ dvs_status dvs_id_allocate_in(dvs_id_allocator *allocator, uint32_t first, uint3
  * ascending order. The array can be null if `count` is 0.
  *
  * Errors, in order:
- * - DVS_OVERFLOW if fewer than `count` ids are free and the last id is UINT32_MAX.
- * - DVS_RESOURCE_NOT_AVAILABLE if fewer than `count` ids are free otherwise.
+ * - DVS_OVERFLOW if fewer than `count` ids are free and the range ends at UINT32_MAX.
+ * - DVS_RESOURCE_NOT_AVAILABLE if fewer than `count` ids are free and the range ends below
+ *   UINT32_MAX.
  * - DVS_OUT_OF_MEMORY.
  */
 DVS_WARN_UNUSED
@@ -906,7 +908,7 @@ dvs_status dvs_id_peek(const dvs_id_allocator *allocator, uint32_t *id);
  * Frees an allocated id.
  *
  * Errors, in order, each with the id:
- * - DVS_OUT_OF_RANGE if the id is not between the first and the last.
+ * - DVS_OUT_OF_RANGE if the id is outside the range.
  * - DVS_NEVER_ALLOCATED if the id was never allocated.
  * - DVS_ALREADY_RELEASED if the id is already freed.
  * - DVS_OUT_OF_MEMORY, without an id.

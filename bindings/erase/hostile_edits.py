@@ -21,6 +21,7 @@ import erase
 RANGE = "crates/vm_ranges/src/range.rt"
 CLAUSE, BODY = "ensures { result ≡ address_count self.now }", "        1 + (self.end - self.start)"
 PROGRAM = "program: vm_ranges\n"
+SECOND = pathlib.Path(__file__).with_name("second_eraser.py")
 IMPL, IMPORT, FIELD = "impl RangeInclusive {", "use std::cmp::Ordering;", "    start: u64,\n    end"
 
 
@@ -143,8 +144,9 @@ def faults_of_program(project, out):
     faults = [] if refused.returncode == 1 and f"{RANGE}:{line}: a type without braces" in refused.stderr else [
         f"erase.py ends with {refused.returncode} and {refused.stderr!r}"]
     source.write_text(text, "utf-8")
-    asked = subprocess.run([*command[:3], "--help"], text=True, capture_output=True, check=False)
-    faults += ["an option ends without the usage"] * ((asked.returncode, asked.stderr.strip()) != (1, erase.__doc__.strip()))
+    for arguments in (["--help"], [project], [*command[2:], out]):
+        asked = subprocess.run([*command[:2], *arguments], text=True, capture_output=True, check=False)
+        faults += [f"{arguments} ends without the usage"] * ((asked.returncode, asked.stderr.strip()) != (1, erase.__doc__.strip()))
     old.parent.mkdir(parents=True)
     old.touch()
     erased = subprocess.run(command, text=True, capture_output=True, check=False)
@@ -153,7 +155,19 @@ def faults_of_program(project, out):
     faults += ["another number of files is printed"] * (erased.stdout != f"vm_ranges: {len(written)} files\n")
     os.utime(written[0], (0, 0))
     subprocess.run(command, capture_output=True, check=False)
-    return faults + ["a file is written again with the same text"] * (written[0].stat().st_mtime != 0)
+    faults += ["a file is written again with the same text"] * (written[0].stat().st_mtime != 0)
+    return faults + faults_of_second(project, pathlib.Path(out, "vm_ranges", "range.rs"))
+
+
+def faults_of_second(project, plain):
+    """Returns the edits of a written module that second_eraser.py accepts, and an output that it rejects."""
+    text = plain.read_text("utf-8")
+    wrong = []
+    for old, new in [("", ""), ("self.end", "self.start"), ("}\n", "}\nfn more() { 1 }\n"), ("&&", "||"), ("use ", "use core::cmp::max;\nuse "), (text, "")]:
+        plain.write_text(text.replace(old, new, 1), "utf-8")
+        second = subprocess.run([sys.executable, SECOND, project, plain.parent.parent], capture_output=True, check=False)
+        wrong += [f"second_eraser.py ends with {second.returncode} for {new}"] * (second.returncode != int(old != new))
+    return wrong
 
 
 def unused(project):

@@ -104,6 +104,8 @@ static const struct step on_none[] = {
 
 /* Several errors at once, of which the first is returned, in the order of the header. In the space
  * from 0x1000 to 0x1fff, and on devices. */
+/* divsharun.h: "The comment of a call lists the other errors in the order in which they are
+ * checked." */
 static const struct step of_errors[] = {
     {FIRST, {0, 3}, FAILS(DVS_INVALID_SIZE)},
     {FIRST, {TOP, 3}, FAILS(DVS_INVALID_ALIGNMENT)},
@@ -116,6 +118,13 @@ static const struct step of_errors[] = {
     {EXACT, {TOP, 1, 0xfff}, IN_THE_WAY(0, 0, OUTSIDE_SPACE, 0x1000, 0x1fff)},
     {EXACT, {TOP, 1, 0x1000}, FAILS(DVS_OVERFLOW)},
 };
+
+/* divsharun.h: "Allocates the lowest free range of `size` addresses that starts at a multiple of
+ * `alignment`, and writes it to `range`."
+ * divsharun.h: "Allocates the highest free range of `size` addresses that starts at a multiple of
+ * `alignment`."
+ * divsharun.h: "Writes the first and the last address of the space to `space`."
+ * divsharun.h: "Writes the length of the longest gap to `length`, or 0 if there is none." */
 
 /* In the space from 0x1000 to 0x1fff. */
 static const struct step on_space[] = {
@@ -224,6 +233,9 @@ static const struct step of_largest_ranges[] = {
     {FREE_LENGTH, {0}, GETS_NUMBER(BELOW(3 * BASE) - PART(1))},
 };
 
+/* divsharun.h: "Errors, if all ids are allocated: DVS_OVERFLOW if the last id is UINT32_MAX, and
+ * DVS_RESOURCE_NOT_AVAILABLE otherwise." */
+
 /* On the ids from 5 to 7. */
 static const struct step on_ids[] = {
     {PEEK, {0}, GETS_ID(5)},
@@ -253,6 +265,11 @@ static const struct step on_last_id[] = {
 
 static const struct step on_all_ids[] = {{FREE_COUNT, {0}, GETS_NUMBER((uint64_t)1 << 32)}};
 
+/* divsharun.h: "Allocates the lowest free id and writes it to `id`."
+ * divsharun.h: "Allocates this id. Unused ids below it become freed ids, as if they had been
+ * allocated and freed."
+ * divsharun.h: "Allocates the lowest free id from `first` to `last`, both included" */
+
 /* On the ids from 5 to 23. */
 static const struct step of_given_ids[] = {
     {ID_EXACT, {24}, TELLS_ID(DVS_OUT_OF_RANGE, 24)},
@@ -268,6 +285,9 @@ static const struct step of_given_ids[] = {
     {ID_IN, {9, UINT32_MAX}, GETS_ID(9)},
     {FREE_COUNT, {0}, GETS_NUMBER(15)},
 };
+
+/* divsharun.h: "Allocates the lowest free id and the range of dvs_range_allocate_first() for a new
+ * device" */
 
 /* For the ids from 1 to 3, and the space from 0x1000 to 0x1fff. */
 static const struct step on_devices[] = {
@@ -617,6 +637,8 @@ static void do_nothing(void *object) {
 
 /* Checks that a visitor can query, compare, save and copy the object, but not change or destroy it.
  * Without a context it ends the visit. */
+/* divsharun.h: "Two errors come first in every call: DVS_NULL if a pointer that must not be null
+ * is null, and DVS_BUSY" */
 static int keep_object(void *context) {
     static const uint64_t zeros[4] = {0, 0, 0, 0};
     const struct group *group = &groups[visited];
@@ -646,6 +668,8 @@ static int keep_object(void *context) {
     }
     return *(const int *)context;
 }
+
+/* divsharun.h: "It returns 0 to continue the visit and any other number to end it." */
 
 /* Any number but 0 ends a visit. */
 static void change_in_visits(void) {
@@ -892,6 +916,17 @@ static clock_t time_quick(const struct quick *row, void *object, uint64_t count)
     return clock() - begun;
 }
 
+/* divsharun.h: "Calls on one id, device or range of a map take logarithmic time too, also if they
+ * skip ids. If such a call makes the list of freed ids, of devices or of values longer, it can
+ * also move the list, in linear time. Counts, dvs_longest_gap() and the ends of a space or of a
+ * range of ids take constant time." */
+
+/* divsharun.h: "Let k be the number of allocated ranges. Allocating, moving and freeing a range
+ * takes time of the order of log k, and so do dvs_range_conflict(), dvs_range_is_allocated(),
+ * dvs_range_at() and dvs_gap_at(). An alignment can make the search for a range visit more gaps. A
+ * visit within a range or from an address takes time of the order of log k, plus the number of
+ * allocated ranges and gaps up to where it ends." */
+
 /* Compares the shortest times in small and in large objects. A linear call takes a hundred times as
  * long. */
 static void be_quick(void) {
@@ -947,6 +982,8 @@ static void be_quick(void) {
 #define FIFTY(text) TEN(text) TEN(text) TEN(text) TEN(text) TEN(text)
 #define TEN(text) text text text text text text text text text text
 
+/* divsharun.h: "The maximum nesting. A value without brackets counts as a level." */
+
 /* Texts that are read, saved texts of the objects, and how deep a value of the text is nested. */
 static const struct {
     int call, group;
@@ -958,6 +995,20 @@ static const struct {
     {IDS_WITHIN, 1, IDS_TEXT, IDS_TEXT, 3},
     {MANAGER_WITHIN, 2, MANAGER_TEXT, MANAGER_TEXT, 6},
 };
+
+/* divsharun.h: "nested at most 128 deep, without a number greater than any double and without an
+ * unpaired surrogate escape."
+ * divsharun.h: "The number of bytes before the fault. A wrong value begins there."
+ * divsharun.h: "the innermost field whose value is wrong, or which is missing or duplicate, with
+ * static storage duration. NULL for other errors, and if the value of the text is not an object or
+ * has an unknown field."
+ * divsharun.h: "- the field of the range, if the start of a range is past its end; - `key`, if the
+ * key of a node does not fit its children; - `root`, if the tree is wrong in another way; -
+ * `range_base`, if it is past `range_end`; - `next_id` or `freed_ids`, if it does not fit the
+ * other ids; - `slots`, if the devices do not fit the ids and the ranges."
+ * divsharun.h: "- the ranges are not in ascending order, overlap or leave the space; - an
+ * allocated range ends at UINT64_MAX; - a path from the root of the tree has more than 50 nodes."
+ */
 
 /* Texts that are not read, each with its status and its fault. */
 static const struct {
@@ -1094,6 +1145,7 @@ static void read_texts(void) {
         check_fault(faults[i].offset, faults[i].field, faults[i].reason);
         refuse(faults[i].call - SPACE_WITHIN + READ_SPACE, NULL, faults[i].status);
     }
+    /* divsharun.h: "Limits for a text that is read. 0 is no limit." */
     /* Limits that no text exceeds. */
     for (i = 0; i < sizeof readings / sizeof readings[0]; i++) {
         give_text(readings[i].text, strlen(readings[i].text), UINT32_MAX);
@@ -1101,6 +1153,9 @@ static void read_texts(void) {
         CHECK(attempt(readings[i].call, NULL, bad) == DVS_OK);
         destroy(readings[i].group, created(readings[i].group));
     }
+    /* divsharun.h: "DVS_LIMIT_EXCEEDED if the text is longer than the limit. Otherwise those of
+     * dvs_address_allocator_read(), with DVS_LIMIT_EXCEEDED instead of DVS_NOT_JSON if the text
+     * first exceeds the limit of nesting." */
     /* The limit of nesting holds behind a fault. */
     give_text("{\"base\":[[1]]}", 14, 4);
     refuse(IDS_WITHIN, NULL, DVS_NOT_A_STATE);
@@ -1200,8 +1255,11 @@ static void say_words(void) {
         CHECK(strcmp(dvs_status_text(unknown[i]), "Unknown number.") == 0);
         CHECK(strcmp(dvs_cause_text(unknown[i]), "Unknown number.") == 0);
     }
+    /* divsharun.h: "DVS_VERSION_NUMBER is 10000 * major + 100 * minor + patch." */
     sprintf(version, "%d.%d.%d", DVS_VERSION_MAJOR, DVS_VERSION_MINOR, DVS_VERSION_PATCH);
     CHECK(strcmp(version, DVS_VERSION_TEXT) == 0 && strcmp(version, dvs_version_text()) == 0);
+    CHECK(DVS_VERSION_NUMBER ==
+          10000 * DVS_VERSION_MAJOR + 100 * DVS_VERSION_MINOR + DVS_VERSION_PATCH);
 }
 
 int main(void) {

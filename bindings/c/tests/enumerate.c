@@ -69,6 +69,7 @@ static dvs_address_allocator *two_held(void) {
     return space;
 }
 
+/* divsharun.h: "They must be in ascending order. `held` can be null if `count` is 0." */
 static void make_with_ranges(void) {
     dvs_address_allocator *space = two_held();
     struct seen seen = all_of();
@@ -131,6 +132,10 @@ static void refuse_ranges(void) {
                                    : 0));
     }
 }
+
+/* divsharun.h: "They must be in ascending order, and share no address."
+ * divsharun.h: "The space is from the first address of the first range to the last address of the
+ * last one. Each hole between the ranges is an allocated range, and can be freed." */
 
 /* The first two ranges have no hole between them. */
 static void make_with_free(void) {
@@ -236,6 +241,7 @@ static void refuse_counts(void) {
 
 /* ---- Look-ups ---- */
 
+/* divsharun.h: "Calls `visitor` with each allocated range, in ascending order." */
 static void look_up_ranges(void) {
     dvs_address_allocator *space = two_held();
     static const uint64_t clear[] = {0, 0xfff, 0x2000, 0x2fff, 0x3800, 0x3fff, 0x4000, UINT64_MAX};
@@ -305,6 +311,8 @@ typedef dvs_status visit_at(const dvs_address_allocator *space, uint64_t address
 typedef dvs_status visit_part(const dvs_address_allocator *space, dvs_range within,
                               dvs_range_visitor *visitor, void *context, dvs_refusal *refusal);
 
+/* divsharun.h: "Visits the allocated ranges that have an address at or above `address`" */
+
 /* Compares a visit within a range with a visit of all ranges or gaps. */
 static void visit_within(const dvs_address_allocator *space, dvs_range within, visit_all *all,
                          visit_part *part) {
@@ -320,6 +328,10 @@ static void visit_within(const dvs_address_allocator *space, dvs_range within, v
         }
     CHECK(some.count == count);
 }
+
+/* divsharun.h: "So the first one contains `address` or is the next one above it."
+ * divsharun.h: "at or below `address`, in descending order, like dvs_range_visit(). Each of them
+ * is passed whole. So the first one contains `address` or is the next one below it." */
 
 /* Compares the visits from an address, up and down, with a visit of all ranges or gaps. */
 static void visit_from(const dvs_address_allocator *space, uint64_t address, visit_all *all,
@@ -412,6 +424,9 @@ static void nest_visits(void) {
 
 /* ---- Several requests ---- */
 
+/* divsharun.h: "Each range is the one that dvs_range_allocate() would allocate after the requests
+ * before it."
+ * divsharun.h: "For the first request that is invalid for every allocator: DVS_INVALID_POLICY" */
 static void allocate_all(void) {
     dvs_address_allocator *space = two_held();
     dvs_request requests[3];
@@ -480,6 +495,9 @@ static bool is_invalid(dvs_status status) {
            status == DVS_INVALID_RANGE;
 }
 
+/* divsharun.h: "`failed` receives the index of the member of an array that has the error. If no
+ * member has one, also with DVS_OK, it receives the length of the array." */
+
 /* Allocates lists with two faults. The first one that is invalid is returned, or else the first. */
 static void allocate_none(void) {
     static const dvs_range backwards = {5, 4}, outside = {0x4000, UINT64_MAX};
@@ -496,6 +514,8 @@ static void allocate_none(void) {
         {{0x1000, 1, 0, DVS_LAST, NULL}, DVS_RESOURCE_NOT_AVAILABLE, 0, {0, 0}},
         {{1, 1, 0, DVS_FIRST, &outside}, NO_PLACE(OUTSIDE_SPACE), {0, 0x3fff}},
         /* The first two requests have 0 to 0xfff and 0x2000 to 0x27ff. */
+        /* divsharun.h: "An address is in the range of an earlier request of the same call. `other`
+         * is 0 to 0." */
         {{1, 1, 0xfff, DVS_EXACT, NULL}, NO_PLACE(EARLIER_REQUEST), {0, 0}},
         {{0x900, 1, 0x2700, DVS_EXACT, NULL}, NO_PLACE(EARLIER_REQUEST), {0, 0}},
         {{0x2000, 1, 0x800, DVS_EXACT, NULL}, NO_PLACE(ALLOCATED), {0x1000, 0x1fff}},
@@ -546,6 +566,8 @@ static void allocate_none(void) {
 
 /* ---- Ids and devices ---- */
 
+/* divsharun.h: "Visits the allocated ids in ascending order"
+ * divsharun.h: "They must be in ascending order. The array can be null if `count` is 0." */
 static void visit_ids(void) {
     dvs_id_allocator *ids;
     struct seen seen = all_of();
@@ -565,6 +587,8 @@ static void visit_ids(void) {
     dvs_id_allocator_destroy(ids);
 }
 
+/* divsharun.h: "Allocates the `count` lowest free ids, or none, and writes them to `ids` in
+ * ascending order." */
 static void allocate_several_ids(void) {
     const uint32_t held[2] = {6, 9};
     uint32_t several[4] = {0, 0, 0, 0};
@@ -591,6 +615,7 @@ static void allocate_several_ids(void) {
     dvs_id_allocator_destroy(ids);
 }
 
+/* divsharun.h: "Visits the devices in ascending order of ids" */
 static void look_up_devices(void) {
     dvs_device_manager *manager;
     struct seen seen = all_of();
@@ -628,6 +653,10 @@ static int see_valued(void *context, dvs_valued_range found) {
 }
 
 enum map_call { ALLOCATE, FREE, MOVE, GET, SET };
+
+/* divsharun.h: "Replaces the value of the allocated range that contains the address, and writes
+ * the value before to `before`."
+ * divsharun.h: "Visits the allocated ranges with their values in ascending order" */
 
 /* Calls of a map of the addresses 16 to 79, the range that is given, and what is returned. */
 static const struct map_row {

@@ -165,6 +165,9 @@ static void give(int group) {
     given.length = lengths[group];
 }
 
+/* divsharun.h: "If memory runs out, a call returns DVS_OUT_OF_MEMORY. It frees what it has made,
+ * or keeps it for later calls on the object. No call ends the process then." */
+
 /* Makes a call of which this allocation fails. Returns whether it has fewer allocations. */
 static bool refuse_one(const struct row *row, bool is_empty, unsigned long number) {
     bool is_done;
@@ -189,6 +192,8 @@ static bool refuse_one(const struct row *row, bool is_empty, unsigned long numbe
     return is_done;
 }
 
+/* divsharun.h: "This is the last error, except in a call that reads a text or takes an array." */
+
 /* Fails each allocation of a call in turn, until a run has no failed allocation. */
 static void refuse_in_turn(const struct row *row) {
     unsigned long number = 1;
@@ -201,6 +206,10 @@ static void refuse_in_turn(const struct row *row) {
         fprintf(stderr, "%s: %lu allocations\n", row->name, number - 1);
     CHECK(number > row->requests);
 }
+
+/* divsharun.h: "Freeing a range, dvs_id_allocate() and queries do not allocate memory."
+ * divsharun.h: "Memory is allocated only if there are some, or if the ids right below and right
+ * above the id are both freed ids." */
 
 /* Calls that do not allocate, because of an error, because a range fills its gap, or in all cases,
  * and their statuses. A request has its members as numbers. */
@@ -298,6 +307,12 @@ static void do_without_memory(void) {
 
 /* The number of ranges of a space, each with a gap after it. */
 enum { RANGES = 20000 };
+
+/* divsharun.h: "Saving and reading allocate less than 100 bytes for each allocated range, freed id
+ * and device, beyond the text and the object." */
+
+/* src/lib.rs: "An address allocator is written from a list of its blocks, and read into a list of
+ * its allocated ranges, in 16 bytes for each." */
 
 /* The maximum numbers of bytes for each range, which are below the limit of the header. Saving
  * lists the range and its gap in 16 bytes each. Reading lists the range in 16 bytes, and an eighth
@@ -406,6 +421,9 @@ static void measure_arrays(void) {
 
 /* Values of which each allocates memory for its length, if values are made of a text. */
 static const char *const deep[] = {"[[[[[[0]]]]]]", "{\"a\":{\"\":[{}]}}", "[[],[],[\"a\"]]"};
+
+/* divsharun.h: "This is also true for an untrusted text, and nothing is allocated after its first
+ * fault." */
 
 /* Checks that a text that encodes no object is refused without an allocation. */
 static void refuse_without_memory(void) {

@@ -104,6 +104,10 @@ struct outcome {
         }                                                                                          \
     }
 
+/* divsharun.h: "An error leaves the results and the object unchanged."
+ * divsharun.h: "An error writes all members, with 0 or NULL for those without a meaning. DVS_OK
+ * writes none." */
+
 /* Returns whether a call returned this status, wrote its result or all details, and nothing else.
  */
 static inline bool has_outcome(const struct outcome *expected, dvs_status status) {

@@ -73,7 +73,8 @@ static void allocate() {
     CHECK(!space.allocate_all({request::first(1, 1), request::last(2, 1)}, ranges, &failed));
     CHECK(failed == 2 && is_range(ranges[1], 0x1efe, 0x1eff));
     CHECK(space.allocate_all({request::first(1, 1), request::last(0, 1)}, ranges, &failed));
-    CHECK(failed == 1 && !space.allocate_all({}, ranges) && ranges.empty());
+    CHECK(failed == 1 && ranges.size() == 2);
+    CHECK(!space.allocate_all({}, ranges) && ranges.empty());
 }
 
 static void allocate_in_windows() {
@@ -149,6 +150,7 @@ static void allocate_all_in_windows() {
     bars.push_back(request::first(1, 1).within({2, 1}));
     CHECK(space.allocate_all(bars, ranges, &failed, &refusal) == dvs::code(DVS_INVALID_RANGE));
     CHECK(failed == 2 && is_range(refusal.range, 2, 1) && ranges_of(space).size() == 4);
+    CHECK(is_range(ranges[0], 30, 31) && is_range(ranges[1], 46, 47));
 }
 
 template <typename Request, typename = decltype(std::declval<Request>().get())>
@@ -211,10 +213,12 @@ static void reserve_in_windows() {
     CHECK(devices.reserve_with_id(6, 6, request::first(8, 8), device, &refusal) ==
           dvs::code(DVS_RESOURCE_NOT_AVAILABLE));
     CHECK(!devices.release(5));
-    CHECK(!devices.reserve_with_id(5, 5, request::last(8, 8), device) && device.id == 5);
+    CHECK(!devices.reserve_with_id(5, 5, request::last(8, 8).within({0, 40}), device));
+    CHECK(device.id == 5 && is_range(device.range, 32, 39));
     dvs_range moved;
     CHECK(devices.move(9, request::first(8, 8), moved) == dvs::code(DVS_NEVER_ALLOCATED));
     CHECK(!devices.move(5, request::exact(16, 8, 48), moved) && is_range(moved, 48, 63));
+    CHECK(!devices.move(5, request::last(8, 8).within({0, 40}), moved) && moved.start == 32);
     CHECK(!devices.move(5, request::last(8, 8), moved));
     CHECK(!space.make_copy_of(devices.get()) && ranges_of(space).size() == 2);
     CHECK(is_range(ranges_of(space)[1], 56, 63));
@@ -299,16 +303,19 @@ static void keep_values() {
     CHECK(!map.make(0, 64) && !map.space(range) && is_range(range, 0, 63));
     CHECK(!map.allocate(7, request::last(8, 8).within({0, 31}), range) && is_range(range, 24, 31));
     CHECK(!map.at(31, found) && found.value == 7 && is_range(found.range, 24, 31));
-    CHECK(map.at(32, found) == DVS_RESOURCE_NOT_AVAILABLE);
+    CHECK(map.at(32, found) == DVS_RESOURCE_NOT_AVAILABLE && found.value == 7);
     CHECK(!other.make_copy(map) && other == map && !other.set(24, 8, number) && number == 7);
-    CHECK(other != map && !map.move(range, request::first(8, 8), range) && range.start == 0);
+    CHECK(!other.move(range, request::first(8, 8).within({9, 63}), range) && range.start == 16);
+    CHECK(other != map && !map.move({24, 31}, request::first(8, 8), range) && range.start == 0);
     CHECK(!map.allocate(9, request::first(8, 8), range) && !map.range_count(number) && number == 2);
     CHECK(!map.ranges(all) && all.size() == 2 && all[0].value == 7 && all[1].value == 9);
     CHECK(!map.for_each([&](dvs_valued_range one) {
         CHECK(one.value == 7 && map.free(one.range, number) == DVS_BUSY);
         return false;
     }));
-    CHECK(!map.free(range, number) && number == 9 && map.free(range, number));
+    CHECK(!map.free(range, number) && number == 9 && map.free(range, number) && number == 9);
+    CHECK(map.set(9, 8, number) == DVS_RESOURCE_NOT_AVAILABLE && number == 9);
+    CHECK(map.move(range, request::first(8, 8), range) && is_range(range, 8, 15));
 }
 
 /* An action that cannot be copied, and counts its calls. */
@@ -451,6 +458,8 @@ static void loop() {
     CHECK(ranges_of(space).size() == 1 && gaps_of(space).size() == 1);
 }
 
+/* divsharun.hpp: "the next item is the first one that has an address above the last item" */
+
 /* Calls `replace` at the first item of a loop over 1, 3 and 5. The loop goes on in the new object.
  */
 template <typename Replace> static void replace_in_a_loop(Replace replace) {
@@ -506,6 +515,7 @@ static void pass_large_numbers() {
     CHECK(!space.allocate_exact(much - 1, much, top - much + 1, range) && range.end == top - 1);
     CHECK(!space.is_allocated(range, is_allocated) && is_allocated);
     CHECK(space.allocate_exact(1, 1, top, moved) == DVS_OVERFLOW);
+    CHECK(space.allocate(request::last(1, 1), moved) == DVS_OVERFLOW);
     CHECK(!space.conflict(request::exact(much, much, half), refusal));
     CHECK(refusal.other.start == half);
     CHECK(!space.allocate(request::first(much, half / 2), range) && range.start == half / 2);
@@ -766,12 +776,12 @@ static void ask_empty(const dvs::address_allocator &space, const dvs::id_allocat
     dvs::address_allocator kept;
     dvs::each_range each_range;
     dvs::each_gap each_gap;
-    dvs_range range = {0, 0};
-    dvs_refusal refusal;
-    dvs_device device;
-    uint64_t count;
-    uint32_t id;
-    bool is_allocated;
+    dvs_range range = {8, 9};
+    dvs_refusal refusal = {{1, 2}, {3, 4}, 5, 6, 7};
+    dvs_device device = {{1, 2}, 3};
+    uint64_t count = 4;
+    uint32_t id = 5;
+    bool is_allocated = true;
     auto see = [](dvs_range) { return true; };
     CHECK(!kept.make_with_held(5, 3, {range_of(5, 6)}));
     CHECK(!kept.ranges_from(0, each_range) && !kept.gaps_from(0, each_gap));
@@ -819,6 +829,33 @@ static void ask_empty(const dvs::address_allocator &space, const dvs::id_allocat
     CHECK(is_range(ranges[0], 1, 2) && numbers[0] == 3 && slots[0].id == 4);
     CHECK(is_range(*each_range.begin(), 5, 6) && is_range(*each_gap.begin(), 7, 7));
     CHECK(space == space && !(ids != ids) && text == "kept");
+    CHECK(is_range(range, 8, 9) && is_range(device.range, 1, 2) && device.id == 3);
+    CHECK(count == 4 && id == 5 && is_allocated && refusal.size == 5 && refusal.cause == 7);
+}
+
+/* An owner whose calls run out of memory. */
+static dvs_status copy_none(const dvs_address_allocator *, dvs_address_allocator **) {
+    return DVS_OUT_OF_MEMORY;
+}
+static dvs_status save_none(const dvs_address_allocator *, char **, std::size_t *) {
+    return DVS_OUT_OF_MEMORY;
+}
+static dvs_status read_none(const char *, std::size_t, const dvs_text_limits *,
+                            dvs_address_allocator **, dvs_text_fault *) {
+    return DVS_OUT_OF_MEMORY;
+}
+
+static void run_out_of_memory() {
+    dvs::owner<dvs_address_allocator, dvs_address_allocator_destroy, copy_none,
+               dvs_address_allocator_equal, save_none, read_none>
+        owner;
+    dvs_address_allocator *made = nullptr;
+    std::string text = "kept";
+
+    CHECK(dvs_address_allocator_new(0, 16, &made) == DVS_OK && !owner.adopt(made));
+    CHECK(owner.save(text) == DVS_OUT_OF_MEMORY && text == "kept");
+    CHECK(owner.make_copy(owner) == DVS_OUT_OF_MEMORY && owner.read(text) == DVS_OUT_OF_MEMORY);
+    CHECK(owner.get() == made);
 }
 
 /* Calls `action` in a visit of an owner's object, which has an item. */
@@ -882,6 +919,30 @@ static void lend(Owner &owner, Item item, const Owner &without) {
     static_assert(std::is_nothrow_move_constructible<Lease>::value &&
                       !std::is_copy_constructible<Lease>::value,
                   "two leases would free one item");
+}
+
+/* Runs the examples of divsharun.hpp. */
+static void show() {
+    dvs::address_allocator space;
+    std::vector<dvs::range_lease> cards;
+    std::vector<dvs_range> all;
+
+    CHECK(!space.make(0x800, 0x4000));
+    {
+        dvs_range bar;
+        if (!space.allocate_first(0x1000, 0x1000, bar))
+            cards.emplace_back(dvs::range_lease(space, bar));
+        dvs::error failed =
+            space.allocate(dvs::request::first(0x1000, 0x1000).within({0, UINT32_MAX}), bar);
+        CHECK(!failed && is_range(bar, 0x2000, 0x2fff));
+    }
+    dvs::each_range ranges;
+    if (!space.ranges_from(0, ranges))
+        for (dvs_range range : ranges)
+            all.push_back(range);
+    CHECK(all.size() == 2 && is_range(all[0], 0x1000, 0x1fff) && cards.size() == 1);
+    cards.clear();
+    CHECK(ranges_of(space).size() == 1);
 }
 
 static void lend_each() {
@@ -981,6 +1042,9 @@ static void keep_in_a_visit(Owner &owner, Change change) {
     CHECK(!owner.adopt(second.detach()) && owner == before && !owner.make_copy(before));
 }
 
+/* divsharun.hpp: "A method that replaces the object returns DVS_BUSY, after every other error,
+ * during a visit of the object." */
+
 /* Calls each other method that changes an object, also with nothing to do. */
 static void change_in_a_visit() {
     using dvs::request;
@@ -990,8 +1054,8 @@ static void change_in_a_visit() {
     dvs_device device = {{0, 0}, 0};
     dvs_range range = {1, 1};
     uint32_t id = 0;
-    std::vector<dvs_range> ranges;
-    std::vector<uint32_t> several(2), none;
+    std::vector<dvs_range> ranges = {{3, 4}};
+    std::vector<uint32_t> several = {7, 8}, none;
     std::string text;
 
     CHECK(!space.make_with_held(0, 16, {range}) && !ids.make_with_held(5, 9, {5}));
@@ -1013,6 +1077,7 @@ static void change_in_a_visit() {
         for (const dvs::error &one : all)
             CHECK(one == DVS_BUSY);
         CHECK(space.make(0, 0) == DVS_UNDERFLOW && is_range(range, 1, 1));
+        CHECK(are_same(ranges, {{3, 4}}));
     });
     keep_in_a_visit(ids, [&] {
         const dvs::error all[] = {ids.make(5, 9),
@@ -1026,6 +1091,7 @@ static void change_in_a_visit() {
         for (const dvs::error &one : all)
             CHECK(one == DVS_BUSY);
         CHECK(ids.make(9, 5) == DVS_INVALID_RANGE && id == 0);
+        CHECK(several == std::vector<uint32_t>({7, 8}));
     });
     keep_in_a_visit(devices, [&] {
         const dvs::error all[] = {devices.make(5, 9, 0, 16),
@@ -1039,6 +1105,8 @@ static void change_in_a_visit() {
         CHECK(devices.make(5, 9, 0, 0) == DVS_UNDERFLOW && device.id == 5);
     });
 }
+
+/* divsharun.hpp: "A move assignment exchanges two objects, so that none is lost." */
 
 /* A visitor replaces the owner of the object that it visits. */
 static void replace_in_a_visit() {
@@ -1060,6 +1128,8 @@ static void replace_in_a_visit() {
     CHECK(!space && !other.adopt(object) && other.get() == object);
     CHECK(!other.adopt(object) && gaps_of(other).size() == 1);
 }
+
+/* divsharun.hpp: "The destructor of an owner destroys nothing during a visit of the object." */
 
 /* Destroys an owner in a visit. The object exists after it. */
 static void destroy_in_a_visit() {
@@ -1093,8 +1163,10 @@ int main() {
     keep_values();
     tell_details();
     ask_empty({}, {}, {});
+    run_out_of_memory();
     visit_each();
     lend_each();
+    show();
     throw_in_a_visit();
     count_all_and_none();
     change_in_a_visit();

@@ -114,6 +114,7 @@ static void *destroy_one(void *context) {
     return NULL;
 }
 
+/* divsharun.h: "Any thread can use and destroy an object." */
 static void hand_on(void) {
     pthread_t thread;
     dvs_address_allocator *space;
@@ -149,6 +150,8 @@ static void *look(void *context) {
     return NULL;
 }
 
+/* divsharun.h: "Calls on different objects can run at the same time. On one object, calls that
+ * take a pointer to const can run at the same time." */
 static void look_together(void) {
     pthread_t threads[THREADS];
     dvs_address_allocator *space;

@@ -26,6 +26,8 @@ static int cancel_thread(void *, dvs_range) {
     return 0;
 }
 
+/* divsharun.hpp: "So a visitor can call exit(), and the object lives on then." */
+
 /* exit() destroys this owner in a visit of its object. */
 static dvs::address_allocator kept;
 
@@ -61,6 +63,8 @@ static void visit_in_child(dvs_range_visitor *visitor, FILE *said) {
 }
 
 /* Checks how a process ends, and what it writes to the standard error stream. */
+/* divsharun.h: "The process ends with abort() if a C++ exception leaves it, if it calls
+ * pthread_exit(), or if its thread is cancelled in it." */
 static void check_ends(dvs_range_visitor *visitor, int signal, const std::string &text) {
     FILE *said = tmpfile();
     char line[100] = "";

@@ -35,6 +35,8 @@ struct row {
 /* In the space from 0x1000 to 0x1fff, with the ranges of `held` allocated. */
 static const dvs_range held[] = {{0x1400, 0x14ff}, {0x1800, 0x18ff}};
 
+/* divsharun.h: "DVS_FIRST allocates the lowest range in the window of the request, and DVS_LAST
+ * the highest. DVS_EXACT allocates the range that starts at `start`, if it lies in the window." */
 static const struct row in_gaps[] = {
     /* A gap. */
     {DVS_FIRST, 0x100, 0x100, 0, {0x1500, 0x17ff}, GETS(0x1500, 0x15ff)},
@@ -76,6 +78,9 @@ static const struct row in_gaps[] = {
     {DVS_LAST, 1, 1, 0, {0x14ff, 0x14ff}, NO_PLACE},
 };
 
+/* divsharun.h: "Without a given start, all addresses of the window are outside it."
+ * divsharun.h: "For the other policies it is DVS_CAUSE_OUTSIDE_SPACE if the window and the space
+ * have no address in common, and otherwise DVS_CAUSE_NONE." */
 static const struct row at_ends[] = {
     /* No address of the space. */
     {DVS_FIRST, 1, 1, 0, {0, 0xfff}, BLOCKED(OUTSIDE_SPACE)},
@@ -98,10 +103,16 @@ static const struct row at_ends[] = {
     {DVS_LAST, 0x10, 1, 0, {0, TOP}, GETS(0x1ff0, 0x1fff)},
     {DVS_EXACT, 0x10, 1, 0x1500, {0, TOP}, GETS(0x1500, 0x150f)},
     {DVS_EXACT, 0x100, 1, 0x1400, {0, TOP}, TELLS(DVS_INVALID_STATE_TRANSITION, 0x1400, 0x14ff)},
+    /* divsharun.h: "For a request at alignment 1 without a window, DVS_FIRST and DVS_LAST return
+     * DVS_RESOURCE_NOT_AVAILABLE if and only if its size is more than this length." */
     {DVS_FIRST, 0x701, 1, 0, {0, TOP}, NO_PLACE},
 };
 
 /* Windows that are not ranges, allocated ranges, and requests with two errors or two causes. */
+/* divsharun.h: "The first one that applies is written, in this order: outside the space, outside
+ * the window, allocated, an earlier request."
+ * divsharun.h: "DVS_INVALID_STATE_TRANSITION is also returned if exactly the requested range is
+ * allocated, starts in the window and ends past it." */
 static const struct row refused[] = {
     {DVS_FIRST, 1, 1, 0, {9, 8}, TELLS(DVS_INVALID_RANGE, 9, 8)},
     {DVS_LAST, 1, 1, 0, {TOP, 0}, TELLS(DVS_INVALID_RANGE, TOP, 0)},
@@ -135,6 +146,9 @@ static const struct row refused[] = {
     {DVS_EXACT, TOP, 1, 0x1400, {0x1400, 0x1401}, FAILS(DVS_OVERFLOW)},
 };
 
+/* divsharun.h: "A `start` of 0 is no lower limit. An `end` of UINT64_MAX is no upper limit. With
+ * neither limit there is no window, as with NULL." */
+
 /* In the space from 0 to 0xff. */
 static const struct row at_zero[] = {
     {DVS_FIRST, 1, 1, 0, {0, 0}, GETS(0, 0)},
@@ -147,6 +161,11 @@ static const struct row at_zero[] = {
     {DVS_LAST, 0x100, 0x100, 0, {0, 0xfe}, NO_PLACE},
     {DVS_LAST, 0x10, 0x10, 0, {0, 0xfe}, GETS(0xe0, 0xef)},
 };
+
+/* divsharun.h: "DVS_OVERFLOW is returned if the highest range ends at UINT64_MAX, even if another
+ * is free."
+ * divsharun.h: "A window that ends before UINT64_MAX avoids the DVS_OVERFLOW of a range that ends
+ * there." */
 
 /* In the space of the 256 addresses up to UINT64_MAX. */
 static const struct row at_top[] = {
@@ -165,6 +184,8 @@ static const struct row at_top[] = {
     {DVS_EXACT, 0x10, 1, TOP - 0x10, {TOP - 0x7f, TOP - 1}, GETS(TOP - 0x10, TOP - 1)},
     {DVS_EXACT, 1, 1, TOP, {TOP, TOP}, FAILS(DVS_OVERFLOW)},
 };
+
+/* divsharun.h: "An address is allocated. `other` is the lowest allocated range that has one." */
 
 /* Requests without a window. */
 static const struct row in_the_way[] = {
@@ -207,6 +228,8 @@ static const struct row of_largest[] = {
     {DVS_FIRST, 1, 1, 0, {TOP, HALF}, TELLS(DVS_INVALID_RANGE, TOP, HALF)},
 };
 
+/* divsharun.h: "But the errors of an invalid request precede those of the id." */
+
 /* In a manager whose id UINT32_MAX is allocated. An error of the id precedes that of the range. */
 static const struct row without_ids[] = {
     {DVS_EXACT + 1, 0, 3, 1, {9, 8}, FAILS(DVS_INVALID_POLICY)},
@@ -224,6 +247,9 @@ static const struct row without_id[] = {
     {DVS_EXACT, 0x10, 1, 0x1400, {0, TOP}, NO_PLACE},
     {DVS_EXACT, 0x10, 1, 0x1500, {0, 0xfff}, NO_PLACE},
 };
+
+/* divsharun.h: "This is dvs_range_move_request() for as many addresses at `start`, at alignment 1
+ * and without a window. So it does not check the alignment and the window of the first request." */
 
 /* Moves of a range in a space of 256 units, of which the units 4 and 5 are allocated. */
 #define UNIT ((uint64_t)1 << 32)
@@ -259,6 +285,9 @@ static const struct {
     {HELD, {DVS_EXACT, 1, 1, TOP, {0, TOP}, FAILS(DVS_OVERFLOW)}},
 };
 /* clang-format on */
+
+/* divsharun.h: "With a cause: the requested range, or 0 to 0 if it has no given start or would end
+ * past UINT64_MAX." */
 
 /* Returns the outcome of a row, with the requested range and the one that the cause names. */
 static struct outcome outcome_of(const struct row *row, dvs_range space) {

@@ -292,7 +292,7 @@ impl AddressAllocator {
         ///     already allocated.
         /// - `ResourceNotAvailable` if there is no such range.
         /// - `Overflow` if the chosen range ends at `u64::MAX`, even if another range is free.
-        /// - `Overflow` if the range fills only a part of its gap and at least 6,293,134,512 ranges are
+        /// - `Overflow` if it fills only a part of its gap, and if at least 6,293,134,512 ranges are
         ///   allocated.
         ///
         /// # Example
@@ -1140,8 +1140,8 @@ impl AddressAllocator {
     /// Returns the height of the tree: the number of nodes on its longest path, at most 48. A leaf is a
     /// node, and has up to 32 allocated ranges and gaps.
     ///
-    /// The tree is balanced. With k allocated ranges its height h is 1 or satisfies
-    /// 12 F(h + 1) <= 2k + 1, where F is the Fibonacci sequence 1, 1, 2, 3, 5.
+    /// The tree is balanced. Let h be its height with k allocated ranges. If h is above 1,
+    /// 12 F(h + 1) is at most 2k + 1, where F is the Fibonacci sequence 1, 1, 2, 3, 5.
     ///
     /// # Example
     ///

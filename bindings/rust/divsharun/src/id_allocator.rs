@@ -222,7 +222,7 @@ impl IdAllocator {
         /// # Errors
         ///
         /// An error changes nothing. In this order:
-        /// - `InvalidRange(first, last)` if the last id of the window is less than the first, as for
+        /// - `InvalidRange(first, last)` if `last` is less than `first`, the ends of the window as for
         ///   [`Constraint::within`](crate::Constraint::within).
         /// - `ResourceNotAvailable` if no id of the window is free.
         ///

@@ -199,8 +199,8 @@
 //! An address allocator is written from a list of its blocks, and read into a list of its allocated
 //! ranges, in 16 bytes for each. The ids of an allocator are read without another list, and devices
 //! into a list of them, in 24 bytes for each. A list of ranges has at most an eighth more capacity
-//! than it needs, and one of devices at most twice as much. A reader of nodes also keeps a list of the
-//! nodes that it is in, of less than 8 KiB.
+//! than it needs, and one of devices at most twice as much. A reader of nodes also keeps less than
+//! 8 KiB for a list of the nodes that it is in.
 //!
 //! An error names the unknown, missing or duplicate field or the unknown variant, or the condition
 //! that the value violates.

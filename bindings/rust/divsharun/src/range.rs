@@ -44,8 +44,8 @@ impl RangeInclusive {
     ///
     /// # Errors
     ///
-    /// - `InvalidRange(start, end)` if `start` is past `end`, or if the range would have all 2^64
-    ///   addresses.
+    /// - `InvalidRange(start, end)` if `start` is past `end`, or if the range would contain all
+    ///   2^64 addresses.
     ///
     /// # Example
     ///
@@ -311,7 +311,8 @@ impl From<RangeInclusive> for ops::RangeInclusive<u64> {
 
 /// # Errors
 ///
-/// - `InvalidRange` with both ends, if the range is empty or has all 2^64 addresses.
+/// - `InvalidRange` with both ends, if the range is empty, or if the range would contain all 2^64
+///   addresses.
 impl TryFrom<ops::RangeInclusive<u64>> for RangeInclusive {
     type Error = Error;
 

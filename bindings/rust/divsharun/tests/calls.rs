@@ -323,6 +323,7 @@ fn ranges_are_read_from_their_texts() {
         "0x-5",
         "0X5-7",
         "0x+5-7",
+        "0x0x5-7",
         "g-7",
         "0-ffffffffffffffff",
         "5-10000000000000000",
@@ -757,6 +758,8 @@ type Written = (
     &'static [(u64, u64, Option<&'static str>)],
     &'static str,
 );
+
+// src/layout.rs: "space ends below 2^16, it writes addresses of four digits, like `/proc/ioports`."
 
 /// Checks that addresses have at least four digits if the last one is below 2^16, and at least
 /// eight otherwise.

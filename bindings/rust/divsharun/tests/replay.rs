@@ -26,6 +26,22 @@ standard input. After -- a file can have any name.
 /// The text of Linux for a file that is missing.
 const MISSING: &str = "No such file or directory (os error 2)";
 
+// REPLAY.md: "`space B S` | makes an allocator of the S addresses that start at B | `done`"
+// REPLAY.md: "`first N A` | allocates N addresses at the lowest multiple of A that fits | `range
+// START END`"
+// REPLAY.md: "`last N A` | allocates N addresses at the highest multiple of A that fits | `range
+// START END`"
+// REPLAY.md: "`exact N A S` | allocates N addresses at S, a multiple of A | `range START END`"
+// REPLAY.md: "`ids A B` | makes an allocator of the ids from A to B | `done`"
+// REPLAY.md: "`id` | allocates the lowest free id | `id N`"
+// REPLAY.md: "`manager A B BASE SIZE` | makes a manager of devices with these ids and addresses |
+// `done`"
+// REPLAY.md: "`device N A` | does `id` and `first N A` in the manager, both or neither | `device ID
+// START END`"
+// REPLAY.md: "`free START END` | frees the range | `done`"
+// REPLAY.md: "`unid N` | frees the id | `id N`"
+// REPLAY.md: "`has N` | checks if the id is allocated | `yes` or `no`"
+// REPLAY.md: "`undevice ID` | frees the device's id and range | `done`"
 /// Lines, and the result of each.
 const LINES: [(&str, &str); 14] = [
     ("first 256 256", "error no-space"),
@@ -50,6 +66,26 @@ fn input() -> String {
 
 fn output() -> String {
     LINES.map(|(_, result)| format!("{result}\n")).concat()
+}
+
+// REPLAY.md: "One space separates two words. A number has one to twenty decimal digits. It is at
+// most 2^64 - 1, and an id at most 2^32 - 1."
+#[test]
+fn numbers_have_limits() {
+    for (line, result) in [
+        ("space 0 00000000000000000001", "done"),
+        ("space 0 000000000000000000001", "error line"),
+        ("space 0 ", "error line"),
+        ("space  0 1", "error line"),
+        ("space 18446744073709551615 1", "done"),
+        ("space 18446744073709551616 1", "error line"),
+        ("ids 0 4294967295", "done"),
+        ("ids 0 4294967296", "error line"),
+    ] {
+        let mut written = Vec::new();
+        assert_eq!(run(line.as_bytes(), &mut written), Ok(()));
+        assert_eq!(String::from_utf8(written).unwrap(), format!("{result}\n"));
+    }
 }
 
 /// A reader and a writer that fails.
@@ -207,6 +243,8 @@ fn file_of(name: &str, lines: &str) -> String {
     path
 }
 
+// REPLAY.md: "The status is 0 after the whole input, 1 if it cannot be read, and 2 if a write fails
+// or the arguments are wrong."
 #[test]
 fn the_program_reads_its_input_or_a_file() {
     let (lines, file) = (file_of("lines", &input()), file_of("a file", "undevice\n"));
@@ -222,6 +260,7 @@ fn the_program_reads_its_input_or_a_file() {
         (&["--help"], 0, HELP, ""),
         (&["--unknown"], 2, "", USAGE),
         (&[file, file], 2, "", USAGE),
+        (&[file, "--"], 2, "", USAGE),
         (&["--help", file], 2, "", USAGE),
         (&["--version", file], 2, "", USAGE),
         (&["-h"], 2, "", USAGE),
