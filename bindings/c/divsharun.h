@@ -443,7 +443,7 @@ dvs_status dvs_address_allocator_space(const dvs_address_allocator *allocator, d
  * - DVS_INVALID_ALIGNMENT if `alignment` is not a power of two.
  * - DVS_RESOURCE_NOT_AVAILABLE if there is no such range.
  * - DVS_OVERFLOW if the range ends at UINT64_MAX, or if it fills only a part of its
- *   gap, and if at least 6,293,134,512 ranges are allocated.
+ *   gap and at least 6,293,134,512 ranges are allocated.
  * - DVS_OUT_OF_MEMORY.
  */
 DVS_WARN_UNUSED
@@ -474,7 +474,7 @@ dvs_status dvs_range_allocate_last(dvs_address_allocator *allocator, uint64_t si
  * - DVS_RESOURCE_NOT_AVAILABLE, with a cause, if an address of the range is
  *   allocated, or outside the space.
  * - DVS_OVERFLOW if the range ends at UINT64_MAX, or if it fills only a part of its
- *   gap, and if at least 6,293,134,512 ranges are allocated.
+ *   gap and at least 6,293,134,512 ranges are allocated.
  * - DVS_OUT_OF_MEMORY.
  */
 DVS_WARN_UNUSED
@@ -587,7 +587,7 @@ dvs_status dvs_range_move_request(dvs_address_allocator *allocator, dvs_range ra
  * - DVS_RESOURCE_NOT_AVAILABLE, with a cause, if an address of the new range is
  *   allocated to another range than `range`, or outside the space.
  * - DVS_OVERFLOW if the new range ends at UINT64_MAX, or if it fills only a part of
- *   its gap, and if more than 6,293,134,512 ranges are allocated.
+ *   its gap, and more than 6,293,134,512 ranges are allocated.
  * - DVS_OUT_OF_MEMORY.
  */
 DVS_WARN_UNUSED

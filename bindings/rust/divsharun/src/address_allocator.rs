@@ -292,7 +292,7 @@ impl AddressAllocator {
         ///     already allocated.
         /// - `ResourceNotAvailable` if there is no such range.
         /// - `Overflow` if the chosen range ends at `u64::MAX`, even if another range is free.
-        /// - `Overflow` if it fills only a part of its gap, and if at least 6,293,134,512 ranges are
+        /// - `Overflow` if it fills only a part of its gap and at least 6,293,134,512 ranges are
         ///   allocated.
         ///
         /// # Example
