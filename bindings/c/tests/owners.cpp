@@ -847,7 +847,7 @@ static dvs_status read_none(const char *, std::size_t, const dvs_text_limits *,
 
 static void run_out_of_memory() {
     dvs::owner<dvs_address_allocator, dvs_address_allocator_destroy, copy_none,
-               dvs_address_allocator_equal, save_none, read_none>
+               dvs_address_allocator_equal, save_none, read_none, dvs_range, dvs_range_visit>
         owner;
     dvs_address_allocator *made = nullptr;
     std::string text = "kept";

@@ -223,6 +223,10 @@ fn uses(rt: HostRuntime) {
     );
     let moved = moved(rt.alloc(), &mut space, &range(&rt, 8, 15), high);
     expect_eq(&rt, &moved, &Ok(range(&rt, 8, 15)), &"where it is");
+}
+
+#[test]
+fn uses_of_nodes(rt: HostRuntime) {
     let mut nodes = ReadNodes::new(rt.alloc());
     expect_true(&rt, begin(&mut nodes), &"the root");
     let ended = end(
