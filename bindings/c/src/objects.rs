@@ -74,9 +74,15 @@ macro_rules! argument {
     };
 }
 
-/// Defines calls. A call has what it does with its first argument, its arguments, a request and its result.
-/// It can also write the index of the member that failed of an array, and the details of an error. The block
-/// returns the result.
+/// Defines calls with the form of the header. The block returns the result, or an error by `?`.
+///
+/// `changes dvs_id_allocate(ids: In<dvs_id_allocator>) -> id: u32 [refusal] { .. }` defines a call with the
+/// arguments `ids`, `id` and `refusal`. In the block, `ids` is the object for writing. It is the object for
+/// reading after `reads`, and the argument itself after `takes`. Null pointers and a visited object are errors
+/// first. The result goes to `id`, and the details of an error to `refusal`.
+///
+/// After `;` comes a request, which is checked before the block. `failed of count` receives the index of the
+/// member that failed of an array of this length.
 macro_rules! calls {
     ($($does:ident $name:ident($first:ident: $first_type:ty
         $(, $argument:ident: $type:ty)* $(; $request:ident)?)

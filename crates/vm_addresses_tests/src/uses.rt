@@ -1,6 +1,6 @@
 //! Callers of calls that no library above makes. They guard against clauses from which a caller cannot prove
 //! what it needs.
-ghost use Rattle.std.specs.Prelude.{◌≡◌, ◌↔◌, ◌≤◌, ◌+◌, ◌*◌, ℕ, length, false, Err, IsTrue, IsOk, IfOk, IfErr, ◌≢◌};
+ghost use Rattle.std.specs.Prelude.{◌≡◌, ◌↔◌, ◌≤◌, ◌+◌, ◌*◌, ℕ, length, false, Err, IsTrue, IsOk, IfOk};
 ghost use Rattle.std.specs.List.{Contains};
 ghost use Rattle.std.specs.declared.cmp.Ordering.TheVariants.{Less};
 ghost use Rattle.vm_allocator.specs.Range.{Range, IsIn};
@@ -13,7 +13,10 @@ ghost use Rattle.vm_allocator.specs.Counts.Steps.{EntersToAllocate};
 ghost use Rattle.vm_allocator.specs.Moves.{MovesRange};
 ghost use Rattle.vm_allocator.specs.Alignment.{AlignsUp};
 ghost use Rattle.vm_allocator.specs.Making.{MakesRange};
+ghost use Rattle.serde_json.specs.View.{view};
+ghost use Rattle.vm_allocator.specs.RangeValues.{EncodesRange};
 ghost use Rattle.vm_allocator.specs.Request.{request_for, MakesConstraint, MakesLimits};
+ghost use Rattle.vm_allocator.specs.Saving.{Reads};
 ghost use Rattle.vm_allocator.specs.Values.NodesRead.{EndsNode, MakesOfNodes};
 ghost use Rattle.vm_allocator.specs.Values.SavedTrees.{HasHeldKeys, HasTreeOf};
 
@@ -41,9 +44,9 @@ fn between(start: u64, end: u64) -> Result<RangeInclusive>
     RangeInclusive::new(start, end)
 }
 
-/// Reads a range, for which no memory is needed.
+/// Reads a range.
 fn read(alloc: Global, value: &Value) -> std::result::Result<RangeInclusive, ValueError>
-    ensures { IfErr result (λ error. error ≢ ValueError.OutOfMemory) }
+    ensures { Reads (EncodesRange (view value.now)) result }
 {
     RangeInclusive::from_value(alloc, value)
 }

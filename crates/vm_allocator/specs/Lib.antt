@@ -8,6 +8,7 @@ pub use Rattle.vm_ranges.specs.Request
 pub use Rattle.vm_ranges.specs.Alignment
 pub use Rattle.vm_ranges.specs.Cloning
 pub use Rattle.vm_ranges.specs.Saving
+pub use Rattle.vm_ranges.specs.RangeValues
 pub use Rattle.vm_ranges.specs.Texts
 pub use Rattle.vm_addresses.specs.Allocator
 pub use Rattle.vm_addresses.specs.Address

@@ -124,7 +124,7 @@ IsApart id rs =
     LacksId id (at_or_above last_of id rs)
     × ((at : ℕ) → IsPlaceFrom last_of id at rs → (¬ IsRightAbove id at rs) × (¬ IsRightBelow id at rs))
 
--- An id is added to the runs of one chunk, unless they do not show both runs next to the id, or it joins none.
+-- An id is added to the runs of one chunk if it is new, unless the runs do not show both neighbours or it joins none (Elsewhere).
 abbrev pub AddsNear : ℕ → Bool → Bool → Added → List Run → List Run → Type 0
 AddsNear id f l Known old new = HasId id (at_or_above last_of id old) × HasNext id f l old × (new ≡ old)
 AddsNear id f l Elsewhere old new = (HasNext id f l old → IsApart id old) × (new ≡ old)

@@ -1,10 +1,10 @@
 //! Callers of calls that no library above makes. They guard against clauses from which a caller cannot prove
 //! what it needs.
-ghost use Rattle.std.specs.Prelude.{◌≡◌, ◌↔◌, drop, take, IsTrue, IfOk};
+ghost use Rattle.std.specs.Prelude.{◌≡◌, ◌↔◌, drop, IsTrue, IfOk, MatchResult, Ok, Err};
 ghost use Rattle.std.specs.Ordering.{eq_by_cmp};
 ghost use Rattle.vm_ids.specs.IdOrder.{id_state_cmp};
 ghost use Rattle.vm_ids.specs.Ids.{IsHeld, IsLowestNotHeld, held_ids};
-ghost use Rattle.vm_ids.specs.IdRequests.{MakesWithHeldIds, free_ids};
+ghost use Rattle.vm_ids.specs.IdRequests.{AllocatesExactId, AllocatesIdIn, AllocatesIds, MakesWithHeldIds};
 
 use crate::fixtures::{ENOUGH, expect_eq, expect_true};
 use std::alloc::Global;
@@ -27,9 +27,25 @@ fn lowest(ids: &mut IdAllocator) -> Result<u32>
 
 /// Allocates the lowest free ids.
 fn several(alloc: Global, ids: &mut IdAllocator, count: usize) -> Result<Vec<u32>>
-    ensures { IfOk result (λ list. list.items ≡ take count (free_ids ids.old)) }
+    ensures { MatchResult result
+        (λ list. AllocatesIds ids.old count (Ok list.items) ids.new)
+        (λ error. AllocatesIds ids.old count (Err error) ids.new) }
 {
     ids.allocate_ids(alloc, count)
+}
+
+/// Allocates an id.
+fn chosen(ids: &mut IdAllocator, id: u32) -> Result<u32>
+    ensures { AllocatesExactId ids.old id result ids.new }
+{
+    ids.allocate_exact(id)
+}
+
+/// Allocates the lowest free id of a window.
+fn lowest_in(ids: &mut IdAllocator, first: u32, last: u32) -> Result<u32>
+    ensures { AllocatesIdIn ids.old first last result ids.new }
+{
+    ids.allocate_in(first, last)
 }
 
 /// Returns `true` if an id is allocated.
@@ -69,4 +85,12 @@ fn uses(rt: HostRuntime) {
     expect_true(&rt, is_taken(&ids, 9) && !is_taken(&ids, 10), &"the last");
     expect_eq(&rt, &after(&ids, 8).next(), &Some(8), &"the ninth");
     expect_true(&rt, are_same(&ids, &ids), &"itself");
+    let mut ids = with_allocated(rt.alloc(), 0, 9, &[]).expect(&rt, ENOUGH);
+    expect_eq(&rt, &chosen(&mut ids, 2), &Ok(2), &"the third");
+    expect_eq(
+        &rt,
+        &lowest_in(&mut ids, 1, 9),
+        &Ok(1),
+        &"the lowest from 1 on",
+    );
 }

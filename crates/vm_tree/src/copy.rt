@@ -1,4 +1,4 @@
-//! A copy of a tree, and a list of its blocks.
+//! A copy of a tree, and a list of the starts of its blocks.
 ghost use Rattle.std.specs.Prelude.{◌≡◌, ◌++◌, IfOk};
 ghost use Rattle.vm_leaf.specs.BlockStarts.{starts_of};
 ghost use Rattle.vm_tree.specs.Links.{side, IsSummed};

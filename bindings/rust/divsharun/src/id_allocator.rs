@@ -222,8 +222,8 @@ impl IdAllocator {
         /// # Errors
         ///
         /// An error changes nothing. In this order:
-        /// - `InvalidRange(first, last)` if `last` is less than `first`, the ends of the window as for
-        ///   [`Constraint::within`](crate::Constraint::within).
+        /// - `InvalidRange(first, last)` if `last` is less than `first`. They are the ends of the window, as
+        ///   for [`Constraint::within`](crate::Constraint::within).
         /// - `ResourceNotAvailable` if no id of the window is free.
         ///
         /// # Example
