@@ -28,7 +28,6 @@ FOLDERS = {
     "std::io": ("std::io", {"Read", "Write"}),
     "std::marker": (None, {"Model"}),
     "std::result": ("core::result", {"Result"}),
-    "std::simd::prelude": ("crate::rattle::simd", {"*"}),
     "serde_json": ("crate::value", {"Value", "json"}),
     "thiserror": (None, {"Error"}),
 }
@@ -54,14 +53,14 @@ ASSOCIATED = {
     "Box::new", "Ord::cmp",
     "Ordering::Equal", "Ordering::Greater", "Ordering::Less", "Value::Null", "Value::as_u64", "Value::from",
     "Value::try_from_str", "Vec::new", "Vec::with_capacity", "mem::replace", "u128::from", "u32::MAX", "u32::try_from",
-    "u32::from", "u64::MAX", "u64::from", "usize::MAX", "usize::from", "u8x16::from_slice", "u8x16::splat",
+    "u32::from", "u64::MAX", "u64::from", "usize::MAX", "usize::from",
 }
 # Methods of types of other crates. Each was compared with the method of Rust.
 METHODS = set("""and_then as_array as_object as_slice as_str as_u64 capacity checked_add checked_mul checked_sub clone cmp
     contains copied copy_from_slice copy_within enumerate extend_from_slice first first_chunk flush get ilog2 insert into
     is_ascii_digit is_empty is_none is_null is_power_of_two is_some iter last len max min next
-    next_back ok ok_or partition_point pop pop_first push range read remove reserve rotate_left saturating_add
-    saturating_sub simd_eq split_at split_first split_last take to_bitmask trailing_zeros truncate unwrap
+    next_back ok ok_or partition_point pop pop_first position push range read remove reserve rotate_left saturating_add
+    saturating_sub split_at split_first split_last take trailing_zeros truncate unwrap
     write_all""".split())
 MACROS = {"json", "matches", "unreachable"}
 DERIVES = {"Clone", "Copy", "Debug", "Default", "Drop", "Eq", "Error", "Hash", "Ord", "PartialEq", "PartialOrd"}
@@ -91,6 +90,8 @@ MODULES = ORIGIN.format("crates.txt") + """
 ATTRIBUTES_WITH_TESTS = "#![allow(dead_code, unused_assignments, unused_variables)]\n"
 # Code that only readers of values or callers in Rattle reach, in files that the package has, and an error that no call returns.
 UNREACHED = re.compile(r"^ *(?=(?:pub fn align_(?:down|up)|Overlap)\(|pub enum ValueError\b)", re.MULTILINE)
+# Types of the package that serde saves.
+SAVED = re.compile(r"^(?=pub enum (?:AllocPolicy|NodeState)\b)", re.MULTILINE)
 PRELUDE_OF_TESTS = "use crate::testing::*;\nuse crate::testing::{assert, assert_eq};\n"
 RUNTIME = "{\n    let rt = HostRuntime;"
 DISPLAY = """
@@ -662,6 +663,7 @@ class File(Tokens):
             if text.endswith("\n\n") and self.text[last:].lstrip(" ").startswith("}"):
                 text = text[:-1]
         text = UNREACHED.sub(r"\g<0>#[allow(dead_code)] ", text + self.text[last:])
+        text = SAVED.sub('#[cfg_attr(feature = "serde", derive(serde::Serialize, serde::Deserialize))]\n', text)
         return ORIGIN.format(self.path) + "\n" + text.strip("\n") + "\n"
 
     def modules_of_crates(self):

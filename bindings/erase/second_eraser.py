@@ -23,17 +23,17 @@ CHANGED = [
     (r"(?<![\w:])(vm_\w+)::", r"crate::proved::\1::"),
     (r"\bstd::alloc::", "crate::rattle::"),
     (r"\bstd::(cmp|mem|result)\b", r"core::\1"),
-    (r"\bstd::simd::prelude::", "crate::rattle::simd::"),
     (r"(?m)(^ *(?:(?:pub(?:\(\w+\))? )?fn \w+|impl)<.*?): Drop(?=[,>])", r"\1"),
     (r"(#\[derive\(.*?)(?:, )?\bDrop\b", r"\1"),
     (r"(#\[derive\(.*?)(?:, )?\bError\b", r"\1"),
     (r"#\[derive\((?:, )?(.*?)\)\]", r"#[derive(\1)]"),
     (r"#\[derive\(\)\]", ""),
 ]
-# Texts that the first eraser adds: the attribute of code that divsharun does not reach, and what the derive of
-# `Error` stands for.
+# Texts that the first eraser adds: attributes of types that serde saves and of code that divsharun does not reach,
+# and what the derive of `Error` stands for.
 ADDED = re.compile(
-    r"#\[allow\(dead_code\)\] (?=pub fn align_(?:down|up)\(|Overlap\(|pub enum ValueError\b)"
+    r"#\[cfg_attr\(feature = \"serde\", derive\(serde::Serialize, serde::Deserialize\)\)\]\s(?=pub enum (?:AllocPolicy|NodeState)\b)"
+    r"|#\[allow\(dead_code\)\] (?=pub fn align_(?:down|up)\(|Overlap\(|pub enum ValueError\b)"
     r"|impl core::fmt::Display for \w+ \{\s+"
     r"fn fmt\(&self, f: &mut core::fmt::Formatter<'_>\) -> core::fmt::Result \{\s+"
     r"match self \{\s+(?:\w+::\w+(?:\(field_0(?:, field_1)?\))? => write!\(f, \".*\"\),\s+)+\}\s+\}\s+\}\s+"

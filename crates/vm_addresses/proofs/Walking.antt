@@ -1,4 +1,5 @@
 pub mod AddressSearches
+pub mod BlockParts
 pub mod GapsInTrees
 pub mod HeldInTrees
 pub mod StateRanges

@@ -25,6 +25,10 @@ abbrev pub ranges_with : NodeState → List Block → List Range
 ranges_with Allocated bs = held_of bs
 ranges_with Free bs = free_of bs
 
+-- The range and the state of a block.
+abbrev pub block_parts : Block → Range × NodeState
+block_parts b = (b.key, b.state)
+
 -- The gaps of a state, from the lowest to the highest.
 abbrev pub gaps_of : AddressState → List Range
 gaps_of state = free_of (blocks_of state)

@@ -4,7 +4,7 @@
 //! - `several` allocates several ranges in one call, and `moving` moves an allocated range.
 //! - `building` and `with_free` create an allocator with some ranges allocated.
 //! - `held_ranges` has queries about the allocated ranges, and `gaps` about the free addresses. Both return
-//!   iterators of `ranges`.
+//!   iterators of `ranges`. `blocks` iterates over the allocated ranges and the gaps.
 //! - `conflicts` returns the reason why a range is not free.
 //! - `comparing` compares two allocators.
 //!
@@ -32,6 +32,7 @@ use vm_ranges::{AllocPolicy, Constraint, Error, RangeInclusive, Result};
 use vm_tree::{Tree, Walk};
 
 mod allocation;
+pub(crate) mod blocks;
 mod building;
 mod comparing;
 mod conflicts;
@@ -140,7 +141,7 @@ impl AddressAllocator {
     }
 
     /// Returns an iterator over the blocks, from both ends.
-    fn blocks(&self) -> Walk<'_>
+    fn walk(&self) -> Walk<'_>
         ensures value { result ≡ blocks self.now }
         ensures space { IsSpaceTree self.now }
     {
@@ -149,7 +150,7 @@ impl AddressAllocator {
 
     /// Returns an iterator over the blocks that have an address in common with `window`, from both
     /// ends.
-    fn blocks_in(&self, window: &RangeInclusive) -> Walk<'_>
+    fn walk_in(&self, window: &RangeInclusive) -> Walk<'_>
         ensures value { result ≡ meeting_blocks window.now (blocks self.now) }
         ensures space { IsSpaceTree self.now }
     {
@@ -339,6 +340,13 @@ impl AddressAllocator {
         ensures tree { IsBalancedTreeOf (state_of self.now) self.now }
     {
         self.tree.height()
+    }
+
+    /// Returns the range of all addresses of the space.
+    pub fn space(&self) -> RangeInclusive
+        ensures { result ≡ (state_of self.now).space }
+    {
+        self.space
     }
 
     /// Returns the first address of the space.

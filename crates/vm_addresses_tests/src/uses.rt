@@ -1,6 +1,6 @@
 //! Callers of calls that no library above makes. They guard against clauses from which a caller cannot prove
 //! what it needs.
-ghost use Rattle.std.specs.Prelude.{◌≡◌, ◌↔◌, ◌≤◌, ◌+◌, ◌*◌, ℕ, length, false, Err, IsTrue, IsOk, IfOk};
+ghost use Rattle.std.specs.Prelude.{◌≡◌, ◌↔◌, ◌≤◌, ◌+◌, ◌*◌, ℕ, length, map, false, Err, IsTrue, IsOk, IfOk};
 ghost use Rattle.std.specs.List.{Contains};
 ghost use Rattle.std.specs.declared.cmp.Ordering.TheVariants.{Less};
 ghost use Rattle.vm_allocator.specs.Range.{Range, IsIn};
@@ -11,6 +11,8 @@ ghost use Rattle.vm_allocator.specs.Comparison.{state_cmp};
 ghost use Rattle.vm_allocator.specs.Conflicts.{ConflictDecides};
 ghost use Rattle.vm_allocator.specs.Counts.Steps.{EntersToAllocate};
 ghost use Rattle.vm_allocator.specs.Moves.{MovesRange};
+ghost use Rattle.vm_allocator.specs.Queries.{block_parts};
+ghost use Rattle.vm_allocator.specs.Tree.Blocks.{blocks_of};
 ghost use Rattle.vm_allocator.specs.Alignment.{AlignsUp};
 ghost use Rattle.vm_allocator.specs.Making.{MakesRange};
 ghost use Rattle.serde_json.specs.View.{view};
@@ -26,8 +28,8 @@ use std::alloc::Global;
 use std::cmp::Ordering;
 use vm_allocator::allocation_engine::{NodeState, align_up};
 use vm_allocator::{
-    AddressAllocator, AllocPolicy, Condition, Conflict, Constraint, ListError, RangeInclusive,
-    ReadNodes, Result, SavedError, Side, ValueError,
+    AddressAllocator, AllBlocks, AllocPolicy, Condition, Conflict, Constraint, ListError,
+    RangeInclusive, ReadNodes, Result, SavedError, Side, ValueError,
 };
 
 /// Returns the lowest multiple from an address on.
@@ -95,6 +97,13 @@ fn of_free(
         IsClear (state_of space) x ↔ ((r : Range) × Contains free.now r × IsIn r x)) }
 {
     AddressAllocator::with_free(alloc, free)
+}
+
+/// Returns the blocks.
+fn parts(space: &AddressAllocator) -> AllBlocks<'_>
+    ensures { result ≡ map block_parts (blocks_of (state_of space.now)) }
+{
+    space.blocks()
 }
 
 /// Returns the number of nodes that an allocation enters.
@@ -219,6 +228,8 @@ fn uses(rt: HostRuntime) {
         &(2, 1),
         &"allocated ranges",
     );
+    let last = (range(&rt, 12, 15), NodeState::Allocated);
+    expect_eq(&rt, &parts(&other).next_back(), &Some(last), &"a range");
     expect_true(
         &rt,
         comes_first(&other, &space),

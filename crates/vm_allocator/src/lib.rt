@@ -9,8 +9,8 @@ pub mod allocation_engine;
 mod laws;
 
 pub use vm_addresses::{
-    AddressAllocator, AllocPolicy, Condition, Conflict, Constraint, DEFAULT_CONSTRAINT_ALIGN,
-    Error, ListError, RangeInclusive, Ranges, RangesIn, ReadNodes, Result, SavedError, Side,
-    ValueError, WrittenBlocks, WrittenNode, WrittenTree,
+    AddressAllocator, AllBlocks, AllocPolicy, Condition, Conflict, Constraint,
+    DEFAULT_CONSTRAINT_ALIGN, Error, ListError, RangeInclusive, Ranges, RangesIn, ReadNodes,
+    Result, SavedError, Side, ValueError, WrittenBlocks, WrittenNode, WrittenTree,
 };
 pub use vm_ids::{FreedIds, HeldIds, IdAllocator, IdRequest, ReadIds};

@@ -1,6 +1,5 @@
 pub mod Splitting
 pub mod Names
-pub mod Lanes
 pub mod Numerals
 pub mod FirstNumber
 pub mod IdNumbers

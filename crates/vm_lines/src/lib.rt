@@ -22,7 +22,6 @@ mod buffer;
 mod command;
 mod laws;
 mod machine;
-mod newline;
 mod number;
 mod replay;
 mod reply;

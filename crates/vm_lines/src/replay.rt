@@ -1,14 +1,14 @@
 //! Runs the replay language: reads pieces of the input, splits them into lines, and writes the
 //! replies through a buffer.
-ghost use Rattle.std.specs.Prelude.{◌≡◌, ◌++◌, [], ◌+◌, ◌<◌, ℕ, List, length, OnOk, IfErr, IsErrOf, Some};
+ghost use Rattle.std.specs.Prelude.{◌≡◌, ◌==◌, ◌++◌, [], ◌+◌, ◌<◌, ℕ, List, length, position, OnOk, IfErr, IsErrOf, Some};
 ghost use Rattle.std.specs.Io.KnownBytes.{Appends};
+ghost use Rattle.vm_lines.specs.Lines.{newline};
 ghost use Rattle.vm_lines.specs.Machines.{start};
 ghost use Rattle.vm_lines.specs.Sessions.{AnswersPiece, AnswersLastLine};
 ghost use Rattle.vm_lines.specs.Moving.{MovesText};
 ghost use Rattle.vm_lines.specs.Runs.{AnswersInput, AnswersEndedLines};
 
 use crate::buffer::{Buffer, CAPACITY};
-use crate::newline::newline_at;
 use crate::reply::MAX_REPLY_LEN;
 use crate::session::Session;
 use std::alloc::Global;
@@ -77,6 +77,13 @@ fn answer_pieces<R: Read, W: Write>(
     }
     flush_buffer(output, writer)?;
     Err(RunError::Read)
+}
+
+/// Returns the index of the first newline, or `None` if there is no newline.
+fn newline_at(text: &[u8]) -> Option<usize>
+    ensures { result ≡ position (λ byte. byte == newline) text.now }
+{
+    text.iter().position(|byte| *byte == b'\n')
 }
 
 /// Executes the lines that end in a piece of the input, and keeps the bytes after them.

@@ -11,8 +11,8 @@ use std::marker::Model;
 /// The alignment for requests that need no particular alignment.
 pub const DEFAULT_CONSTRAINT_ALIGN: u64 = 4;
 
-/// The policy that chooses a free range for a request.
-#[derive(Clone, Copy, Debug, Default, PartialEq, Eq)]
+/// The policy that chooses a free range for a request. The default is `FirstMatch`.
+#[derive(Clone, Copy, Debug, Default, PartialEq, Eq, Hash)]
 pub enum AllocPolicy {
     /// Chooses the lowest range.
     #[default]

@@ -316,7 +316,7 @@ impl AddressAllocator {
             alignment: u64,
             policy: AllocPolicy,
         ) -> Result<RangeInclusive> {
-            Ok(RangeInclusive(self.0.allocate(Global, size, alignment, policy.proved())?))
+            Ok(RangeInclusive(self.0.allocate(Global, size, alignment, policy)?))
         }
 
         /// Allocates a range like [`allocate`](Self::allocate), but returns an error if memory
@@ -717,7 +717,6 @@ impl AddressAllocator {
         alignment: u64,
         policy: AllocPolicy,
     ) -> (Result<RangeInclusive>, u64) {
-        let policy = policy.proved();
         let (answer, count) = self.0.allocate_counted(Global, size, alignment, policy);
         (answer.map(RangeInclusive).map_err(Error::from), count)
     }
@@ -863,7 +862,7 @@ impl AddressAllocator {
     /// ```
     #[must_use]
     pub fn space(&self) -> RangeInclusive {
-        space_of(&self.0)
+        RangeInclusive(self.0.space())
     }
 
     /// Returns an iterator over the allocated ranges, like [`held_ranges`](Self::held_ranges).
@@ -1202,12 +1201,6 @@ impl AddressAllocator {
     pub fn try_clone(&self) -> TryResult<Self> {
         Ok(AddressAllocator(self.0.try_clone(Global)?))
     }
-}
-
-/// Returns the space of an allocator of the proved code.
-pub(crate) fn space_of(allocator: &proved::AddressAllocator) -> RangeInclusive {
-    let space = RangeInclusive::new(allocator.base(), allocator.end());
-    space.expect("a space never has all 2^64 addresses")
 }
 
 /// Returns the part of a window in a space, or an address outside the space if there is none.

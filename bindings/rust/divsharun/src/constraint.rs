@@ -1,58 +1,10 @@
 // SPDX-License-Identifier: Apache-2.0 OR BSD-3-Clause
 use crate::pad::pad;
 use crate::proved::vm_addresses as proved;
-use crate::{Error, RangeInclusive, Result};
+use crate::{AllocPolicy, Error, RangeInclusive, Result};
 use core::fmt;
 use core::hash::{Hash, Hasher};
 use core::ops::{Bound, RangeBounds};
-
-/// The range that [`allocate`](crate::AddressAllocator::allocate) chooses if several fit. The
-/// default is `FirstMatch`.
-///
-/// # Example
-///
-/// ```rust
-/// use divsharun::{AddressAllocator, AllocPolicy};
-///
-/// let mut space = AddressAllocator::new(0x1000, 0x3000)?;
-/// assert_eq!(space.allocate(0x1000, 1, AllocPolicy::default())?.start(), 0x1000);
-/// assert_eq!(space.allocate(0x1000, 1, AllocPolicy::LastMatch)?.start(), 0x3000);
-/// assert_eq!(space.allocate(0x1000, 1, AllocPolicy::ExactMatch(0x2000))?.start(), 0x2000);
-/// # Ok::<(), divsharun::Error>(())
-/// ```
-#[derive(Clone, Copy, Debug, Default, PartialEq, Eq, Hash)]
-#[cfg_attr(feature = "serde", derive(serde::Serialize, serde::Deserialize))]
-pub enum AllocPolicy {
-    /// Chooses the lowest range.
-    #[default]
-    FirstMatch,
-    /// Chooses the highest range.
-    LastMatch,
-    /// Chooses the range with this start.
-    ExactMatch(u64),
-}
-
-impl AllocPolicy {
-    /// Converts a policy of the proved code.
-    #[inline(always)]
-    const fn of(policy: proved::AllocPolicy) -> AllocPolicy {
-        match policy {
-            proved::AllocPolicy::FirstMatch => AllocPolicy::FirstMatch,
-            proved::AllocPolicy::LastMatch => AllocPolicy::LastMatch,
-            proved::AllocPolicy::ExactMatch(start) => AllocPolicy::ExactMatch(start),
-        }
-    }
-
-    /// Converts to a policy of the proved code.
-    #[inline(always)]
-    pub(crate) const fn proved(self) -> proved::AllocPolicy {
-        match self {
-            AllocPolicy::FirstMatch => proved::AllocPolicy::FirstMatch,
-            AllocPolicy::LastMatch => proved::AllocPolicy::LastMatch,
-            AllocPolicy::ExactMatch(start) => proved::AllocPolicy::ExactMatch(start),
-        }
-    }
-}
 
 /// The alignment for requests that need no particular one.
 pub const DEFAULT_CONSTRAINT_ALIGN: u64 = proved::DEFAULT_CONSTRAINT_ALIGN;
@@ -106,7 +58,7 @@ impl Constraint {
     /// # Ok::<(), Error>(())
     /// ```
     pub const fn new(size: u64, align: u64, policy: AllocPolicy) -> Result<Self> {
-        match proved::Constraint::new(size, align, policy.proved()) {
+        match proved::Constraint::new(size, align, policy) {
             Ok(request) => Ok(Constraint(request)),
             Err(proved::Error::InvalidAlignment) => Err(Error::InvalidAlignment),
             Err(proved::Error::UnalignedAddress) => Err(Error::UnalignedAddress),
@@ -219,7 +171,7 @@ impl Constraint {
     /// ```
     #[must_use]
     pub const fn policy(self) -> AllocPolicy {
-        AllocPolicy::of(self.0.policy())
+        self.0.policy()
     }
 }
 

@@ -7,30 +7,28 @@
 
 use crate::proved::{vm_addresses as proved, vm_devices};
 use crate::TryError;
-use crate::{AddressAllocator, Conflict, DeviceSlot, Error, ListError, NodeState, RangeInclusive};
+use crate::{AddressAllocator, Conflict, DeviceSlot, Error, ListError, RangeInclusive};
 
-/// Implements the conversions between an enum of callers and the one of the proved code. They have the same
-/// variants, except for those of the last arm.
-macro_rules! convert_variants {
-    ($public:ident, $proved:ty:
-        $($variant:ident $(($($field:ident),+))?),+ $(; $other:ident => $value:expr)?) => {
+/// Implements the conversions between the errors of callers and those of the proved code, which have the same
+/// variants. Only the proved code has `OutOfMemory`: the process then ends, as with Rust's collections.
+macro_rules! convert_errors {
+    ($($variant:ident $(($($field:ident),+))?),+) => {
         #[diagnostic::do_not_recommend]
-        impl From<$proved> for $public {
-            fn from(value: $proved) -> Self {
-                type Proved = $proved;
-                match value {
-                    $(Proved::$variant $(($($field),+))? => {
+        impl From<proved::Error> for Error {
+            fn from(error: proved::Error) -> Self {
+                match error {
+                    $(proved::Error::$variant $(($($field),+))? => {
                         Self::$variant $(($($field.into()),+))?
                     })+
-                    $(Proved::$other => $value,)?
+                    proved::Error::OutOfMemory => out_of_memory(),
                 }
             }
         }
 
-        impl From<$public> for $proved {
-            fn from(value: $public) -> Self {
-                match value {
-                    $($public::$variant $(($($field),+))? => {
+        impl From<Error> for proved::Error {
+            fn from(error: Error) -> Self {
+                match error {
+                    $(Error::$variant $(($($field),+))? => {
                         Self::$variant $(($($field.into()),+))?
                     })+
                 }
@@ -39,14 +37,10 @@ macro_rules! convert_variants {
     };
 }
 
-convert_variants! { NodeState, crate::proved::vm_ranges::NodeState: Free, Allocated }
-// If memory ran out, the process ends, as with Rust's collections.
-convert_variants! {
-    Error, proved::Error:
+convert_errors! {
     Overflow, OutOfRange(id), AlreadyReleased(id), NeverAllocated(id), ResourceNotAvailable,
     InvalidRange(start, end), InvalidAlignment, Overlap(new, old),
-    InvalidStateTransition(range, state), UnalignedAddress, Underflow, InvalidSize(size);
-    OutOfMemory => out_of_memory()
+    InvalidStateTransition(range, state), UnalignedAddress, Underflow, InvalidSize(size)
 }
 
 impl Into<RangeInclusive> for proved::RangeInclusive {

@@ -1,5 +1,5 @@
 // SPDX-License-Identifier: Apache-2.0 OR BSD-3-Clause
-use crate::address_allocator::{space_of, ShortDebug};
+use crate::address_allocator::ShortDebug;
 use crate::convert::out_of_memory;
 use crate::error::TryResult;
 use crate::id_allocator::DebugIds;
@@ -166,7 +166,7 @@ impl DeviceManager {
         /// ```
         #[doc(alias("allocate", "add", "insert"))]
         pub fn reserve(&mut self, size: u64, align: u64, policy: AllocPolicy) -> Result<DeviceSlot> {
-            Ok(self.0.reserve(Global, size, align, policy.proved())?.into())
+            Ok(self.0.reserve(Global, size, align, policy)?.into())
         }
 
         /// Reserves like [`reserve`](Self::reserve), but returns an error if memory runs out.
@@ -576,7 +576,7 @@ impl DeviceManager {
     /// ```
     #[must_use]
     pub fn space(&self) -> RangeInclusive {
-        space_of(self.0.addresses())
+        RangeInclusive(self.0.addresses().space())
     }
 
     /// Returns the device whose range contains the address, or `None` if there is none.

@@ -1,9 +1,10 @@
 // SPDX-License-Identifier: Apache-2.0 OR BSD-3-Clause
 use crate::convert::out_of_memory;
-use crate::{AddressAllocator, HeldRanges, NodeState, RangeInclusive, TryError};
+use crate::proved::vm_addresses as proved;
+use crate::traits::iterate;
+use crate::{AddressAllocator, NodeState, RangeInclusive, TryError};
 use alloc::vec::Vec;
 use core::fmt;
-use core::iter::FusedIterator;
 
 /// A view of the space of an [`AddressAllocator`], created by [`layout`](AddressAllocator::layout).
 ///
@@ -113,16 +114,7 @@ impl<'a> Layout<'a> {
     /// ```
     #[must_use]
     pub fn blocks(&self) -> Blocks<'_> {
-        let held = self.allocator.held_ranges();
-        Blocks {
-            start: self.allocator.base(),
-            end: self.allocator.end(),
-            left: held.len() + self.allocator.gaps().len(),
-            lowest: None,
-            held,
-            highest: None,
-            names: &self.names,
-        }
+        Blocks(self.allocator.0.blocks(), &self.names)
     }
 }
 
@@ -190,76 +182,24 @@ impl fmt::Display for Block<'_> {
 /// assert_eq!(gaps.map(|gap| gap.range.len()).max(), Some(0x800));
 /// # Ok::<(), divsharun::Error>(())
 /// ```
-#[derive(Clone, Debug)]
-pub struct Blocks<'a> {
-    // The ends of the blocks that are left, and the number of these.
-    start: u64,
-    end: u64,
-    left: usize,
-    // The allocated ranges that are left: at most one that the walk has passed, those of the walk, and
-    // at most one that it has passed from behind.
-    lowest: Option<RangeInclusive>,
-    held: HeldRanges<'a>,
-    highest: Option<RangeInclusive>,
-    names: &'a [Named<'a>],
+#[derive(Clone)]
+pub struct Blocks<'a>(proved::AllBlocks<'a>, &'a [Named<'a>]);
+
+/// Returns a block. If it is allocated, it has the last name that was given to its range.
+fn named<'a>(
+    (range, state): (proved::RangeInclusive, NodeState),
+    names: &[Named<'a>],
+) -> Block<'a> {
+    let range = RangeInclusive(range);
+    let upto = match state {
+        NodeState::Free => 0,
+        NodeState::Allocated => names.partition_point(|(named, ..)| *named <= range),
+    };
+    let last = names[..upto].last();
+    let name = last.and_then(|(named, _, name)| (*named == range).then_some(*name));
+    Block { range, state, name }
 }
 
-impl<'a> Blocks<'a> {
-    /// Returns a block. If it is allocated, it has the last name that was given to its range.
-    fn block(&self, range: RangeInclusive, state: NodeState) -> Block<'a> {
-        let upto = match state {
-            NodeState::Free => 0,
-            NodeState::Allocated => self.names.partition_point(|(named, ..)| *named <= range),
-        };
-        let last = self.names[..upto].last();
-        let name = last.and_then(|(named, _, name)| (*named == range).then_some(*name));
-        Block { range, state, name }
-    }
-}
-
-impl<'a> Iterator for Blocks<'a> {
-    type Item = Block<'a>;
-
-    fn next(&mut self) -> Option<Block<'a>> {
-        self.left = self.left.checked_sub(1)?;
-        let next = self.lowest.take().or_else(|| self.held.next());
-        let next = next.or_else(|| self.highest.take());
-        let (range, state) = match next {
-            Some(range) if range.start() == self.start => (range, NodeState::Allocated),
-            // A space never has all 2^64 addresses, so its gaps are ranges.
-            _ => {
-                self.lowest = next;
-                let end = next.map_or(self.end, |range| range.start() - 1);
-                (RangeInclusive::new(self.start, end).ok()?, NodeState::Free)
-            }
-        };
-        self.start = range.end().wrapping_add(1);
-        Some(self.block(range, state))
-    }
-
-    fn size_hint(&self) -> (usize, Option<usize>) {
-        (self.left, Some(self.left))
-    }
-}
-
-impl<'a> DoubleEndedIterator for Blocks<'a> {
-    fn next_back(&mut self) -> Option<Block<'a>> {
-        self.left = self.left.checked_sub(1)?;
-        let next = self.highest.take().or_else(|| self.held.next_back());
-        let next = next.or_else(|| self.lowest.take());
-        let (range, state) = match next {
-            Some(range) if range.end() == self.end => (range, NodeState::Allocated),
-            _ => {
-                self.highest = next;
-                let start = next.map_or(self.start, |range| range.end() + 1);
-                (RangeInclusive::new(start, self.end).ok()?, NodeState::Free)
-            }
-        };
-        self.end = range.start().wrapping_sub(1);
-        Some(self.block(range, state))
-    }
-}
+iterate!(Blocks: Block<'a>, |blocks, found| named(found, blocks.1));
 
 impl ExactSizeIterator for Blocks<'_> {}
-
-impl FusedIterator for Blocks<'_> {}

@@ -242,7 +242,6 @@ mod device_manager;
 mod error;
 mod id_allocator;
 mod layout;
-mod node_state;
 mod pad;
 // The eraser writes it. Without `serde`, nothing reaches the calls for saved objects, and without
 // `std`, nothing reaches those that only `vm_lines` makes.
@@ -261,13 +260,13 @@ mod traits;
 
 pub use address_allocator::{AddressAllocator, Gaps, GapsIn, HeldRanges, HeldRangesIn};
 pub use conflict::Conflict;
-pub use constraint::{AllocPolicy, Constraint, Window, DEFAULT_CONSTRAINT_ALIGN};
+pub use constraint::{Constraint, Window, DEFAULT_CONSTRAINT_ALIGN};
 pub use device_manager::{DeviceManager, DeviceSlot, Devices};
 pub use error::{Error, ListError, Result, TryError};
 pub use id_allocator::{HeldIds, IdAllocator};
 pub use layout::{Block, Blocks, Layout};
-pub use node_state::NodeState;
 pub use proved::vm_ids::IdRequest;
+pub use proved::vm_ranges::{AllocPolicy, NodeState};
 pub use range::{ParseRangeError, RangeInclusive};
 pub use range_map::{RangeMap, ValuedRanges};
 #[cfg(feature = "serde")]

@@ -1,5 +1,4 @@
 // SPDX-License-Identifier: Apache-2.0 OR BSD-3-Clause
-use crate::address_allocator::space_of;
 use crate::error::TryResult;
 use crate::proved::vm_addresses::{self, RangeInclusive as Range};
 use crate::proved::vm_range_map as proved;
@@ -126,7 +125,7 @@ impl<T> RangeMap<T> {
             policy: AllocPolicy,
             value: T,
         ) -> Result<RangeInclusive> {
-            let (policy, index) = (policy.proved(), self.values.len() as u64);
+            let index = self.values.len() as u64;
             let range = self.ranges.allocate(Global, size, alignment, policy, index)?;
             Ok(RangeInclusive(self.keep(range, value)?))
         }
@@ -404,7 +403,7 @@ impl<T> RangeMap<T> {
     /// ```
     #[must_use]
     pub fn space(&self) -> RangeInclusive {
-        space_of(self.ranges.addresses())
+        RangeInclusive(self.ranges.addresses().space())
     }
 
     /// Returns a copy, or an error if memory runs out. A clone of a value that allocates memory can still

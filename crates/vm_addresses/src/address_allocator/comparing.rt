@@ -82,7 +82,7 @@ impl AddressAllocator {
         ensures order { result ≡ layout_cmp (state_of self.now) (state_of other.now) }
         ensures equal { (result ≡ Equal) ↔ AreEqual (state_of self.now) (state_of other.now) }
     {
-        compare_blocks(self.blocks(), other.blocks())
+        compare_blocks(self.walk(), other.walk())
     }
 }
 

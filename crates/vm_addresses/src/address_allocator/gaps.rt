@@ -19,7 +19,7 @@ impl AddressAllocator {
         ensures { result ≡ gaps_of (state_of self.now) }
     {
         let ranges = RangesIn {
-            blocks: self.blocks(),
+            blocks: self.walk(),
             state: NodeState::Free,
         };
         Ranges {
@@ -38,7 +38,7 @@ impl AddressAllocator {
         ensures { result ≡ meeting range.now (gaps_of (state_of self.now)) }
     {
         RangesIn {
-            blocks: self.blocks_in(range),
+            blocks: self.walk_in(range),
             state: NodeState::Free,
         }
     }

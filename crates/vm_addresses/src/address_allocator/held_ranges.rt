@@ -18,7 +18,7 @@ impl AddressAllocator {
         ensures { result ≡ (state_of self.now).held }
     {
         let ranges = RangesIn {
-            blocks: self.blocks(),
+            blocks: self.walk(),
             state: NodeState::Allocated,
         };
         Ranges {
@@ -37,7 +37,7 @@ impl AddressAllocator {
         ensures { result ≡ meeting range.now (state_of self.now).held }
     {
         RangesIn {
-            blocks: self.blocks_in(range),
+            blocks: self.walk_in(range),
             state: NodeState::Allocated,
         }
     }

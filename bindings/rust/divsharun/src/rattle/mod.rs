@@ -7,8 +7,6 @@
 #![deny(missing_docs)]
 
 mod boxed;
-#[cfg(feature = "std")]
-pub mod simd;
 mod vec;
 
 pub use boxed::Box;

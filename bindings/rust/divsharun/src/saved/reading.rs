@@ -173,7 +173,7 @@ impl<'de> Visitor<'de> for InnerNode<'_> {
         let right = from.next_element_seed(Subtree(nodes, Side::Right))?;
         element(right, Field::Right)?;
         let height = element(from.next_element()?, Field::Height)?;
-        nodes.end(side, key, state.into(), height).map_err(invalid)
+        nodes.end(side, key, state, height).map_err(invalid)
     }
 
     fn visit_map<A: MapAccess<'de>>(self, mut from: A) -> Result<(), A::Error> {
@@ -193,7 +193,7 @@ impl<'de> Visitor<'de> for InnerNode<'_> {
             }
         }
         match (key, seen.iter().position(|seen| !seen)) {
-            (Some(key), None) => nodes.end(side, key, state.into(), height).map_err(invalid),
+            (Some(key), None) => nodes.end(side, key, state, height).map_err(invalid),
             (_, missing) => Err(A::Error::missing_field(FIELDS[missing.unwrap_or(0)])),
         }
     }

@@ -3,7 +3,6 @@
 
 use super::{Map, ValuedRange};
 use crate::proved::vm_addresses::{AddressAllocator, WrittenBlocks, WrittenTree};
-use crate::proved::vm_ranges::NodeState;
 use crate::rattle::Global;
 use crate::TryError;
 use core::fmt;
@@ -164,12 +163,6 @@ impl Serialize for WrittenTree<'_> {
 #[inline(never)]
 fn serialize_root<S: Serializer>(tree: &WrittenTree<'_>, to: S) -> Result<S::Ok, S::Error> {
     tree.root().serialize(to)
-}
-
-impl Serialize for NodeState {
-    fn serialize<S: Serializer>(&self, to: S) -> Result<S::Ok, S::Error> {
-        crate::NodeState::from(*self).serialize(to)
-    }
 }
 
 impl<T: Serialize> Serialize for crate::RangeMap<T> {

@@ -6,7 +6,7 @@
 //! - `several` allocates several ranges in one call, and `moving` moves an allocated range.
 //! - `building` and `with_free` create an allocator with some ranges allocated.
 //! - `held_ranges` has queries about the allocated ranges, and `gaps` about the free addresses. Both return
-//!   iterators of `ranges`.
+//!   iterators of `ranges`. `blocks` iterates over the allocated ranges and the gaps.
 //! - `conflicts` returns the reason why a range is not free.
 //! - `comparing` compares two allocators.
 //!
@@ -18,6 +18,7 @@ use crate::proved::vm_tree::{Tree, Walk};
 use crate::rattle::Global;
 
 mod allocation;
+pub(in crate::proved::vm_addresses) mod blocks;
 mod building;
 mod comparing;
 mod conflicts;
@@ -100,13 +101,13 @@ impl AddressAllocator {
     }
 
     /// Returns an iterator over the blocks, from both ends.
-    fn blocks(&self) -> Walk<'_> {
+    fn walk(&self) -> Walk<'_> {
         self.tree.blocks()
     }
 
     /// Returns an iterator over the blocks that have an address in common with `window`, from both
     /// ends.
-    fn blocks_in(&self, window: &RangeInclusive) -> Walk<'_> {
+    fn walk_in(&self, window: &RangeInclusive) -> Walk<'_> {
         self.tree.blocks_in(window)
     }
 
@@ -221,6 +222,11 @@ impl AddressAllocator {
     /// F is the Fibonacci sequence 1, 1, 2, 3, 5.
     pub fn height(&self) -> u64 {
         self.tree.height()
+    }
+
+    /// Returns the range of all addresses of the space.
+    pub fn space(&self) -> RangeInclusive {
+        self.space
     }
 
     /// Returns the first address of the space.

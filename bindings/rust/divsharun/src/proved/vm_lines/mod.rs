@@ -6,7 +6,6 @@
 mod buffer;
 mod command;
 mod machine;
-mod newline;
 mod number;
 mod replay;
 mod reply;

@@ -4,7 +4,6 @@
 //! replies through a buffer.
 
 use crate::proved::vm_lines::buffer::{Buffer, CAPACITY};
-use crate::proved::vm_lines::newline::newline_at;
 use crate::proved::vm_lines::reply::MAX_REPLY_LEN;
 use crate::proved::vm_lines::session::Session;
 use crate::rattle::Global;
@@ -65,6 +64,11 @@ fn answer_pieces<R: Read, W: Write>(
     }
     flush_buffer(output, writer)?;
     Err(RunError::Read)
+}
+
+/// Returns the index of the first newline, or `None` if there is no newline.
+fn newline_at(text: &[u8]) -> Option<usize> {
+    text.iter().position(|byte| *byte == b'\n')
 }
 
 /// Executes the lines that end in a piece of the input, and keeps the bytes after them.

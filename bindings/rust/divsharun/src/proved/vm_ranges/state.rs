@@ -3,7 +3,8 @@
 //! The state of a block of a space: free or allocated.
 
 /// The state of a block of a space. `Free` is less than `Allocated`.
-#[derive(Clone, Copy, Debug, PartialEq, Eq, PartialOrd, Ord)]
+#[derive(Clone, Copy, Debug, PartialEq, Eq, PartialOrd, Ord, Hash)]
+#[cfg_attr(feature = "serde", derive(serde::Serialize, serde::Deserialize))]
 pub enum NodeState {
     /// The addresses of the block are free.
     Free,

@@ -1,6 +1,6 @@
 // Written by bindings/erase from crates/vm_tree/src/copy.rt: do not edit.
 
-//! A copy of a tree, and a list of its blocks.
+//! A copy of a tree, and a list of the starts of its blocks.
 
 use crate::proved::vm_leaf::{BlockStart, Leaf};
 use crate::proved::vm_tree::link::{Link, Node};

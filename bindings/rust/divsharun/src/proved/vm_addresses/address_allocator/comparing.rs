@@ -44,7 +44,7 @@ impl AddressAllocator {
     /// Compares the first blocks that differ, by start, then by end, then by state. If the blocks of one
     /// allocator are a prefix of the blocks of the other, it is less.
     pub fn cmp_blocks(&self, other: &AddressAllocator) -> Ordering {
-        compare_blocks(self.blocks(), other.blocks())
+        compare_blocks(self.walk(), other.walk())
     }
 }
 

@@ -15,7 +15,7 @@ impl AddressAllocator {
     /// It does not allocate.
     pub fn gaps(&self) -> Ranges<'_> {
         let ranges = RangesIn {
-            blocks: self.blocks(),
+            blocks: self.walk(),
             state: NodeState::Free,
         };
         Ranges {
@@ -31,7 +31,7 @@ impl AddressAllocator {
     /// not allocate.
     pub fn gaps_in(&self, range: &RangeInclusive) -> RangesIn<'_> {
         RangesIn {
-            blocks: self.blocks_in(range),
+            blocks: self.walk_in(range),
             state: NodeState::Free,
         }
     }

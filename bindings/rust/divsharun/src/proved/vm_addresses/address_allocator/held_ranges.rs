@@ -13,7 +13,7 @@ impl AddressAllocator {
     /// It does not allocate.
     pub fn held_ranges(&self) -> Ranges<'_> {
         let ranges = RangesIn {
-            blocks: self.blocks(),
+            blocks: self.walk(),
             state: NodeState::Allocated,
         };
         Ranges {
@@ -29,7 +29,7 @@ impl AddressAllocator {
     /// item. It descends one path of the tree for each end of `range` and does not allocate.
     pub fn held_ranges_in(&self, range: &RangeInclusive) -> RangesIn<'_> {
         RangesIn {
-            blocks: self.blocks_in(range),
+            blocks: self.walk_in(range),
             state: NodeState::Allocated,
         }
     }
