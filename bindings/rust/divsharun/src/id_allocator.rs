@@ -2,7 +2,7 @@
 use crate::error::TryResult;
 use crate::proved::vm_ids as proved;
 use crate::rattle::Global;
-use crate::traits::{allocator, fused, twins};
+use crate::traits::{allocator, fused, twins, DebugList};
 use crate::{Result, Window};
 use alloc::vec::Vec;
 use core::fmt;
@@ -559,22 +559,8 @@ impl fmt::Debug for DebugIds<'_> {
             .field("range_base", &self.0.range_base())
             .field("next_id", &self.0.next_id())
             .field("range_end", &self.0.range_end())
-            .field("held_ids", &FirstHeld(self.0))
+            .field("held_ids", &DebugList(|| self.0.held_ids()))
             .finish()
-    }
-}
-
-/// The `Debug` of the lowest allocated ids, at most 64. It ends in `..` if there are more.
-struct FirstHeld<'a>(&'a proved::IdAllocator);
-
-impl fmt::Debug for FirstHeld<'_> {
-    fn fmt(&self, f: &mut fmt::Formatter<'_>) -> fmt::Result {
-        let (mut ids, mut list) = (self.0.held_ids(), f.debug_list());
-        list.entries(ids.by_ref().take(64));
-        match ids.count_left() {
-            0 => list.finish(),
-            _ => list.finish_non_exhaustive(),
-        }
     }
 }
 

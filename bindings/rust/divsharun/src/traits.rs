@@ -3,12 +3,17 @@
 
 use core::fmt;
 
-/// The `Debug` of the items that a function returns, as a list.
+/// The `Debug` of the first items that a function returns, at most 64. It ends in `..` if there are more.
 pub(crate) struct DebugList<F>(pub(crate) F);
 
 impl<I: Iterator<Item: fmt::Debug>, F: Fn() -> I> fmt::Debug for DebugList<F> {
     fn fmt(&self, f: &mut fmt::Formatter<'_>) -> fmt::Result {
-        f.debug_list().entries(self.0()).finish()
+        let (mut items, mut list) = (self.0(), f.debug_list());
+        list.entries(items.by_ref().take(64));
+        match items.next() {
+            None => list.finish(),
+            Some(_) => list.finish_non_exhaustive(),
+        }
     }
 }
 

@@ -745,6 +745,15 @@ fn debug_texts_show_the_fields() {
     gaps.allocate(2, 1, AllocPolicy::ExactMatch(3)).unwrap();
     assert!(format!("{gaps:?}").contains("end: 7, held_count: 1, held_ranges: ["));
     assert_eq!(format!("{:?}", space.held_ranges()), "HeldRanges { .. }");
+    let mut many = AddressAllocator::new(0, 66).unwrap();
+    let shown = [64, 65].map(|count| {
+        while many.held_count() < count {
+            many.allocate(1, 1, AllocPolicy::FirstMatch).unwrap();
+        }
+        format!("{many:?}")
+    });
+    assert!(shown[0].ends_with("end: 63 }] }"), "{}", shown[0]);
+    assert!(shown[1].ends_with("end: 63 }, ..] }"), "{}", shown[1]);
     let layout = space.layout().named([(held, "disk")]);
     let names = r#"names: [(RangeInclusive { start: 19, end: 19 }, 0, "disk")] }"#;
     assert!(format!("{layout:?}").ends_with(names));
