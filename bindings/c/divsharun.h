@@ -106,7 +106,7 @@
 #define DVS_VERSION_NUMBER 30000
 #define DVS_VERSION_TEXT "3.0.0"
 
-/* The compiler warns if the status of such a call is ignored. */
+/* The compiler warns if the status of a call with this attribute is ignored. */
 #ifdef __GNUC__
 #define DVS_WARN_UNUSED __attribute__((warn_unused_result))
 #else
@@ -346,9 +346,8 @@ uint32_t dvs_version_number(void);
  * - DVS_OVERFLOW if the last address would be past UINT64_MAX.
  * - DVS_OUT_OF_MEMORY.
  */
-DVS_WARN_UNUSED
 dvs_status dvs_address_allocator_new(uint64_t base, uint64_t size,
-                                     dvs_address_allocator **allocator);
+                                     dvs_address_allocator **allocator) DVS_WARN_UNUSED;
 
 /*
  * Creates an allocator like dvs_address_allocator_new(), in which the `count`
@@ -369,10 +368,9 @@ dvs_status dvs_address_allocator_new(uint64_t base, uint64_t size,
  * - DVS_OVERFLOW if there are 2^49 or more ranges and gaps.
  * - DVS_OUT_OF_MEMORY.
  */
-DVS_WARN_UNUSED
 dvs_status dvs_address_allocator_with_held(uint64_t base, uint64_t size, const dvs_range *held,
                                            size_t count, dvs_address_allocator **allocator,
-                                           size_t *failed, dvs_refusal *refusal);
+                                           size_t *failed, dvs_refusal *refusal) DVS_WARN_UNUSED;
 
 /*
  * Creates an allocator in which exactly the `count` ranges of the array `ranges` are
@@ -395,10 +393,9 @@ dvs_status dvs_address_allocator_with_held(uint64_t base, uint64_t size, const d
  * - DVS_OVERFLOW if there are 2^48 or more holes.
  * - DVS_OUT_OF_MEMORY.
  */
-DVS_WARN_UNUSED
 dvs_status dvs_address_allocator_with_free(const dvs_range *ranges, size_t count,
                                            dvs_address_allocator **allocator, size_t *failed,
-                                           dvs_refusal *refusal);
+                                           dvs_refusal *refusal) DVS_WARN_UNUSED;
 
 /*
  * Destroys an allocator, with all its allocated ranges. It does nothing if the
@@ -417,8 +414,8 @@ dvs_status dvs_address_allocator_destroy(dvs_address_allocator *allocator);
  * - DVS_INVALID_SIZE if `length` is 0.
  * - DVS_OVERFLOW if the last address would be past UINT64_MAX.
  */
-DVS_WARN_UNUSED
-dvs_status dvs_range_from_start_length(uint64_t start, uint64_t length, dvs_range *range);
+dvs_status dvs_range_from_start_length(uint64_t start, uint64_t length,
+                                       dvs_range *range) DVS_WARN_UNUSED;
 
 /*
  * Writes the number of addresses of `range` below `address` to `offset`.
@@ -427,12 +424,11 @@ dvs_status dvs_range_from_start_length(uint64_t start, uint64_t length, dvs_rang
  * - DVS_INVALID_RANGE if `range` is not a valid range.
  * - DVS_RESOURCE_NOT_AVAILABLE if `address` is not in the range.
  */
-DVS_WARN_UNUSED
-dvs_status dvs_range_offset_of(dvs_range range, uint64_t address, uint64_t *offset);
+dvs_status dvs_range_offset_of(dvs_range range, uint64_t address, uint64_t *offset) DVS_WARN_UNUSED;
 
 /* Writes the first and the last address of the space to `space`. Errors: DVS_NULL. */
-DVS_WARN_UNUSED
-dvs_status dvs_address_allocator_space(const dvs_address_allocator *allocator, dvs_range *space);
+dvs_status dvs_address_allocator_space(const dvs_address_allocator *allocator,
+                                       dvs_range *space) DVS_WARN_UNUSED;
 
 /*
  * Allocates the lowest free range of `size` addresses that starts at a multiple of
@@ -446,18 +442,18 @@ dvs_status dvs_address_allocator_space(const dvs_address_allocator *allocator, d
  *   gap and at least 6,293,134,512 ranges are allocated.
  * - DVS_OUT_OF_MEMORY.
  */
-DVS_WARN_UNUSED
 dvs_status dvs_range_allocate_first(dvs_address_allocator *allocator, uint64_t size,
-                                    uint64_t alignment, dvs_range *range, dvs_refusal *refusal);
+                                    uint64_t alignment, dvs_range *range,
+                                    dvs_refusal *refusal) DVS_WARN_UNUSED;
 
 /*
  * Allocates the highest free range of `size` addresses that starts at a multiple of
  * `alignment`. Its errors are those of dvs_range_allocate_first(). DVS_OVERFLOW is
  * returned if the highest range ends at UINT64_MAX, even if another is free.
  */
-DVS_WARN_UNUSED
 dvs_status dvs_range_allocate_last(dvs_address_allocator *allocator, uint64_t size,
-                                   uint64_t alignment, dvs_range *range, dvs_refusal *refusal);
+                                   uint64_t alignment, dvs_range *range,
+                                   dvs_refusal *refusal) DVS_WARN_UNUSED;
 
 /*
  * Allocates the `size` addresses starting at `start`.
@@ -477,10 +473,9 @@ dvs_status dvs_range_allocate_last(dvs_address_allocator *allocator, uint64_t si
  *   gap and at least 6,293,134,512 ranges are allocated.
  * - DVS_OUT_OF_MEMORY.
  */
-DVS_WARN_UNUSED
 dvs_status dvs_range_allocate_exact(dvs_address_allocator *allocator, uint64_t size,
                                     uint64_t alignment, uint64_t start, dvs_range *range,
-                                    dvs_refusal *refusal);
+                                    dvs_refusal *refusal) DVS_WARN_UNUSED;
 
 /*
  * Allocates the range of `request`, and writes it to `range`. Free it with
@@ -506,9 +501,8 @@ dvs_status dvs_range_allocate_exact(dvs_address_allocator *allocator, uint64_t s
  * is allocated, starts in the window and ends past it. A window that ends before
  * UINT64_MAX avoids the DVS_OVERFLOW of a range that ends there.
  */
-DVS_WARN_UNUSED
 dvs_status dvs_range_allocate(dvs_address_allocator *allocator, const dvs_request *request,
-                              dvs_range *range, dvs_refusal *refusal);
+                              dvs_range *range, dvs_refusal *refusal) DVS_WARN_UNUSED;
 
 /*
  * Allocates a range for each of the `count` requests, in their order, and writes
@@ -523,11 +517,10 @@ dvs_status dvs_range_allocate(dvs_address_allocator *allocator, const dvs_reques
  * - DVS_OUT_OF_MEMORY if memory for a list runs out.
  * - For the first request that fails: the error of dvs_range_allocate().
  */
-DVS_WARN_UNUSED
 dvs_status dvs_address_allocator_allocate_all(dvs_address_allocator *allocator,
                                               const dvs_request *requests, size_t count,
                                               dvs_range *ranges, size_t *failed,
-                                              dvs_refusal *refusal);
+                                              dvs_refusal *refusal) DVS_WARN_UNUSED;
 
 /*
  * Writes to `conflict` why the range of a DVS_EXACT request is not free: the cause, the
@@ -538,9 +531,8 @@ dvs_status dvs_address_allocator_allocate_all(dvs_address_allocator *allocator,
  *
  * Errors: those of dvs_range_allocate() from DVS_INVALID_POLICY to DVS_INVALID_RANGE.
  */
-DVS_WARN_UNUSED
 dvs_status dvs_range_conflict(const dvs_address_allocator *allocator, const dvs_request *request,
-                              dvs_refusal *conflict);
+                              dvs_refusal *conflict) DVS_WARN_UNUSED;
 
 /*
  * Frees an allocated range. It does not allocate memory.
@@ -565,10 +557,9 @@ dvs_status dvs_range_free(dvs_address_allocator *allocator, dvs_range range, dvs
  * - The other errors of dvs_range_allocate() if `range` is free, in the same order. The
  *   refusal never names `range`.
  */
-DVS_WARN_UNUSED
 dvs_status dvs_range_move_request(dvs_address_allocator *allocator, dvs_range range,
                                   const dvs_request *request, dvs_range *moved,
-                                  dvs_refusal *refusal);
+                                  dvs_refusal *refusal) DVS_WARN_UNUSED;
 
 /*
  * Moves an allocated range to `start`, and writes the range there to `moved`. This
@@ -590,30 +581,27 @@ dvs_status dvs_range_move_request(dvs_address_allocator *allocator, dvs_range ra
  *   its gap, and more than 6,293,134,512 ranges are allocated.
  * - DVS_OUT_OF_MEMORY.
  */
-DVS_WARN_UNUSED
 dvs_status dvs_range_move(dvs_address_allocator *allocator, dvs_range range, uint64_t start,
-                          dvs_range *moved, dvs_refusal *refusal);
+                          dvs_range *moved, dvs_refusal *refusal) DVS_WARN_UNUSED;
 
 /*
  * Writes to `is_allocated` whether exactly this range is allocated.
  *
  * Errors: DVS_INVALID_RANGE if `range` is not a valid range.
  */
-DVS_WARN_UNUSED
 dvs_status dvs_range_is_allocated(const dvs_address_allocator *allocator, dvs_range range,
-                                  bool *is_allocated, dvs_refusal *refusal);
+                                  bool *is_allocated, dvs_refusal *refusal) DVS_WARN_UNUSED;
 
 /* Writes the number of allocated ranges to `count`, in constant time. Errors: DVS_NULL. */
-DVS_WARN_UNUSED
-dvs_status dvs_range_count(const dvs_address_allocator *allocator, uint64_t *count);
+dvs_status dvs_range_count(const dvs_address_allocator *allocator, uint64_t *count) DVS_WARN_UNUSED;
 
 /*
  * Writes the allocated range that contains the address to `range`.
  *
  * Errors: DVS_RESOURCE_NOT_AVAILABLE if no allocated range contains it.
  */
-DVS_WARN_UNUSED
-dvs_status dvs_range_at(const dvs_address_allocator *allocator, uint64_t address, dvs_range *range);
+dvs_status dvs_range_at(const dvs_address_allocator *allocator, uint64_t address,
+                        dvs_range *range) DVS_WARN_UNUSED;
 
 /*
  * Writes the gap that contains the address to `gap`. A gap is a run of free
@@ -622,8 +610,8 @@ dvs_status dvs_range_at(const dvs_address_allocator *allocator, uint64_t address
  * Errors: DVS_RESOURCE_NOT_AVAILABLE if the address is allocated or outside the
  * space.
  */
-DVS_WARN_UNUSED
-dvs_status dvs_gap_at(const dvs_address_allocator *allocator, uint64_t address, dvs_range *gap);
+dvs_status dvs_gap_at(const dvs_address_allocator *allocator, uint64_t address,
+                      dvs_range *gap) DVS_WARN_UNUSED;
 
 /*
  * Writes the length of the longest gap to `length`, or 0 if there is none. For a
@@ -631,16 +619,15 @@ dvs_status dvs_gap_at(const dvs_address_allocator *allocator, uint64_t address, 
  * DVS_RESOURCE_NOT_AVAILABLE if and only if its size is more than this length.
  * Errors: DVS_NULL.
  */
-DVS_WARN_UNUSED
-dvs_status dvs_longest_gap(const dvs_address_allocator *allocator, uint64_t *length);
+dvs_status dvs_longest_gap(const dvs_address_allocator *allocator,
+                           uint64_t *length) DVS_WARN_UNUSED;
 
 /* Writes the number of gaps to `count`, in constant time. Errors: DVS_NULL. */
-DVS_WARN_UNUSED
-dvs_status dvs_gap_count(const dvs_address_allocator *allocator, uint64_t *count);
+dvs_status dvs_gap_count(const dvs_address_allocator *allocator, uint64_t *count) DVS_WARN_UNUSED;
 
 /* Writes the number of free addresses to `length`, in constant time. Errors: DVS_NULL. */
-DVS_WARN_UNUSED
-dvs_status dvs_free_length(const dvs_address_allocator *allocator, uint64_t *length);
+dvs_status dvs_free_length(const dvs_address_allocator *allocator,
+                           uint64_t *length) DVS_WARN_UNUSED;
 
 /*
  * The function that a visit calls for each range, with its `context`. It returns
@@ -723,17 +710,16 @@ dvs_status dvs_gap_visit_back(const dvs_address_allocator *allocator, uint64_t a
  *
  * Errors: DVS_OUT_OF_MEMORY.
  */
-DVS_WARN_UNUSED
 dvs_status dvs_address_allocator_copy(const dvs_address_allocator *allocator,
-                                      dvs_address_allocator **copied);
+                                      dvs_address_allocator **copied) DVS_WARN_UNUSED;
 
 /*
  * Writes to `are_equal` whether both allocators have the same space and the same
  * allocated ranges. It does not allocate memory. Errors: DVS_NULL.
  */
-DVS_WARN_UNUSED
 dvs_status dvs_address_allocator_equal(const dvs_address_allocator *one,
-                                       const dvs_address_allocator *other, bool *are_equal);
+                                       const dvs_address_allocator *other,
+                                       bool *are_equal) DVS_WARN_UNUSED;
 
 /*
  * Saves the allocator as JSON. Writes the text to `text` and its length in
@@ -742,9 +728,8 @@ dvs_status dvs_address_allocator_equal(const dvs_address_allocator *one,
  *
  * Errors: DVS_OUT_OF_MEMORY.
  */
-DVS_WARN_UNUSED
 dvs_status dvs_address_allocator_save(const dvs_address_allocator *allocator, char **text,
-                                      size_t *length);
+                                      size_t *length) DVS_WARN_UNUSED;
 
 /*
  * Creates the allocator that the `length` bytes of `text` encode. They need no
@@ -760,9 +745,8 @@ dvs_status dvs_address_allocator_save(const dvs_address_allocator *allocator, ch
  *   are not those of an allocator.
  * - DVS_OUT_OF_MEMORY. It can also come first, while the text is read.
  */
-DVS_WARN_UNUSED
 dvs_status dvs_address_allocator_read(const char *text, size_t length,
-                                      dvs_address_allocator **allocator);
+                                      dvs_address_allocator **allocator) DVS_WARN_UNUSED;
 
 /*
  * Reads like dvs_address_allocator_read(), within `limits`, which can be null.
@@ -777,11 +761,10 @@ dvs_status dvs_address_allocator_read(const char *text, size_t length,
  * those of dvs_address_allocator_read(), with DVS_LIMIT_EXCEEDED instead of
  * DVS_NOT_JSON if the text first exceeds the limit of nesting.
  */
-DVS_WARN_UNUSED
 dvs_status dvs_address_allocator_read_within(const char *text, size_t length,
                                              const dvs_text_limits *limits,
                                              dvs_address_allocator **allocator,
-                                             dvs_text_fault *fault);
+                                             dvs_text_fault *fault) DVS_WARN_UNUSED;
 
 /*
  * Reads like dvs_address_allocator_read(), and also accepts what the crate
@@ -793,16 +776,14 @@ dvs_status dvs_address_allocator_read_within(const char *text, size_t length,
  * - an allocated range ends at UINT64_MAX;
  * - a path from the root of the tree has more than 50 nodes.
  */
-DVS_WARN_UNUSED
 dvs_status dvs_address_allocator_read_repaired(const char *text, size_t length,
-                                               dvs_address_allocator **allocator);
+                                               dvs_address_allocator **allocator) DVS_WARN_UNUSED;
 
 /* Reads like dvs_address_allocator_read_repaired() and dvs_address_allocator_read_within(). */
-DVS_WARN_UNUSED
 dvs_status dvs_address_allocator_read_repaired_within(const char *text, size_t length,
                                                       const dvs_text_limits *limits,
                                                       dvs_address_allocator **allocator,
-                                                      dvs_text_fault *fault);
+                                                      dvs_text_fault *fault) DVS_WARN_UNUSED;
 
 /* ---- Ids ---- */
 
@@ -814,9 +795,8 @@ dvs_status dvs_address_allocator_read_repaired_within(const char *text, size_t l
  * - DVS_INVALID_RANGE, with both ids, if `last` is less than `first`.
  * - DVS_OUT_OF_MEMORY.
  */
-DVS_WARN_UNUSED
 dvs_status dvs_id_allocator_new(uint32_t first, uint32_t last, dvs_id_allocator **allocator,
-                                dvs_refusal *refusal);
+                                dvs_refusal *refusal) DVS_WARN_UNUSED;
 
 /*
  * Creates an allocator for the ids from `first` to `last`, both included, with
@@ -834,18 +814,16 @@ dvs_status dvs_id_allocator_new(uint32_t first, uint32_t last, dvs_id_allocator 
  *     before it.
  * - DVS_OUT_OF_MEMORY.
  */
-DVS_WARN_UNUSED
 dvs_status dvs_id_allocator_with_held(uint32_t first, uint32_t last, const uint32_t *held,
                                       size_t count, dvs_id_allocator **allocator,
-                                      dvs_refusal *refusal);
+                                      dvs_refusal *refusal) DVS_WARN_UNUSED;
 
 /* Destroys an allocator, with all its allocated ids, like dvs_address_allocator_destroy(). */
 dvs_status dvs_id_allocator_destroy(dvs_id_allocator *allocator);
 
 /* Writes the first and the last id of the range. Errors: DVS_NULL. */
-DVS_WARN_UNUSED
 dvs_status dvs_id_allocator_range(const dvs_id_allocator *allocator, uint32_t *first,
-                                  uint32_t *last);
+                                  uint32_t *last) DVS_WARN_UNUSED;
 
 /*
  * Allocates the lowest free id and writes it to `id`. It does not allocate
@@ -854,8 +832,7 @@ dvs_status dvs_id_allocator_range(const dvs_id_allocator *allocator, uint32_t *f
  * Errors, if all ids are allocated: DVS_OVERFLOW if the last id is UINT32_MAX,
  * and DVS_RESOURCE_NOT_AVAILABLE otherwise.
  */
-DVS_WARN_UNUSED
-dvs_status dvs_id_allocate(dvs_id_allocator *allocator, uint32_t *id);
+dvs_status dvs_id_allocate(dvs_id_allocator *allocator, uint32_t *id) DVS_WARN_UNUSED;
 
 /*
  * Allocates this id. Unused ids below it become freed ids, as if they had been
@@ -868,8 +845,8 @@ dvs_status dvs_id_allocate(dvs_id_allocator *allocator, uint32_t *id);
  * - DVS_RESOURCE_NOT_AVAILABLE, with the id, if the id is already allocated.
  * - DVS_OUT_OF_MEMORY.
  */
-DVS_WARN_UNUSED
-dvs_status dvs_id_allocate_exact(dvs_id_allocator *allocator, uint32_t id, dvs_refusal *refusal);
+dvs_status dvs_id_allocate_exact(dvs_id_allocator *allocator, uint32_t id,
+                                 dvs_refusal *refusal) DVS_WARN_UNUSED;
 
 /*
  * Allocates the lowest free id from `first` to `last`, both included, as
@@ -880,9 +857,8 @@ dvs_status dvs_id_allocate_exact(dvs_id_allocator *allocator, uint32_t id, dvs_r
  * - DVS_RESOURCE_NOT_AVAILABLE if no id from `first` to `last` is in the range and free.
  * - DVS_OUT_OF_MEMORY.
  */
-DVS_WARN_UNUSED
 dvs_status dvs_id_allocate_in(dvs_id_allocator *allocator, uint32_t first, uint32_t last,
-                              uint32_t *id, dvs_refusal *refusal);
+                              uint32_t *id, dvs_refusal *refusal) DVS_WARN_UNUSED;
 
 /*
  * Allocates the `count` lowest free ids, or none, and writes them to `ids` in
@@ -894,15 +870,14 @@ dvs_status dvs_id_allocate_in(dvs_id_allocator *allocator, uint32_t first, uint3
  *   UINT32_MAX.
  * - DVS_OUT_OF_MEMORY.
  */
-DVS_WARN_UNUSED
-dvs_status dvs_ids_allocate(dvs_id_allocator *allocator, uint32_t *ids, size_t count);
+dvs_status dvs_ids_allocate(dvs_id_allocator *allocator, uint32_t *ids,
+                            size_t count) DVS_WARN_UNUSED;
 
 /*
  * Writes the id that dvs_id_allocate() would allocate, without allocating it. It has the
  * same errors.
  */
-DVS_WARN_UNUSED
-dvs_status dvs_id_peek(const dvs_id_allocator *allocator, uint32_t *id);
+dvs_status dvs_id_peek(const dvs_id_allocator *allocator, uint32_t *id) DVS_WARN_UNUSED;
 
 /*
  * Frees an allocated id.
@@ -919,16 +894,14 @@ dvs_status dvs_id_free(dvs_id_allocator *allocator, uint32_t id, dvs_refusal *re
  * Writes to `is_allocated` whether the id is allocated. An id outside the range is
  * not. Errors: DVS_NULL.
  */
-DVS_WARN_UNUSED
-dvs_status dvs_id_is_allocated(const dvs_id_allocator *allocator, uint32_t id, bool *is_allocated);
+dvs_status dvs_id_is_allocated(const dvs_id_allocator *allocator, uint32_t id,
+                               bool *is_allocated) DVS_WARN_UNUSED;
 
 /* Writes the number of allocated ids to `count`. Errors: DVS_NULL. */
-DVS_WARN_UNUSED
-dvs_status dvs_id_count(const dvs_id_allocator *allocator, uint64_t *count);
+dvs_status dvs_id_count(const dvs_id_allocator *allocator, uint64_t *count) DVS_WARN_UNUSED;
 
 /* Writes the number of free ids to `count`. Errors: DVS_NULL. */
-DVS_WARN_UNUSED
-dvs_status dvs_id_free_count(const dvs_id_allocator *allocator, uint64_t *count);
+dvs_status dvs_id_free_count(const dvs_id_allocator *allocator, uint64_t *count) DVS_WARN_UNUSED;
 
 /* The function that dvs_id_visit() calls for each id. It has the rules of dvs_range_visitor. */
 typedef int dvs_id_visitor(void *context, uint32_t id);
@@ -937,30 +910,28 @@ typedef int dvs_id_visitor(void *context, uint32_t id);
 dvs_status dvs_id_visit(const dvs_id_allocator *allocator, dvs_id_visitor *visitor, void *context);
 
 /* Creates a copy of the allocator, like dvs_address_allocator_copy(). */
-DVS_WARN_UNUSED
-dvs_status dvs_id_allocator_copy(const dvs_id_allocator *allocator, dvs_id_allocator **copied);
+dvs_status dvs_id_allocator_copy(const dvs_id_allocator *allocator,
+                                 dvs_id_allocator **copied) DVS_WARN_UNUSED;
 
 /*
  * Writes to `are_equal` whether both allocators have the same range of ids, the same
  * allocated ids and the same freed ids. It does not allocate memory. Errors: DVS_NULL.
  */
-DVS_WARN_UNUSED
 dvs_status dvs_id_allocator_equal(const dvs_id_allocator *one, const dvs_id_allocator *other,
-                                  bool *are_equal);
+                                  bool *are_equal) DVS_WARN_UNUSED;
 
 /* Saves like dvs_address_allocator_save(). */
-DVS_WARN_UNUSED
-dvs_status dvs_id_allocator_save(const dvs_id_allocator *allocator, char **text, size_t *length);
+dvs_status dvs_id_allocator_save(const dvs_id_allocator *allocator, char **text,
+                                 size_t *length) DVS_WARN_UNUSED;
 
 /* Reads like dvs_address_allocator_read(). */
-DVS_WARN_UNUSED
-dvs_status dvs_id_allocator_read(const char *text, size_t length, dvs_id_allocator **allocator);
+dvs_status dvs_id_allocator_read(const char *text, size_t length,
+                                 dvs_id_allocator **allocator) DVS_WARN_UNUSED;
 
 /* Reads like dvs_address_allocator_read_within(). */
-DVS_WARN_UNUSED
 dvs_status dvs_id_allocator_read_within(const char *text, size_t length,
                                         const dvs_text_limits *limits, dvs_id_allocator **allocator,
-                                        dvs_text_fault *fault);
+                                        dvs_text_fault *fault) DVS_WARN_UNUSED;
 
 /* ---- Devices ---- */
 
@@ -975,21 +946,20 @@ dvs_status dvs_id_allocator_read_within(const char *text, size_t length,
  * - DVS_OVERFLOW if the last address would be past UINT64_MAX.
  * - DVS_OUT_OF_MEMORY.
  */
-DVS_WARN_UNUSED
 dvs_status dvs_device_manager_new(uint32_t first_id, uint32_t last_id, uint64_t base, uint64_t size,
-                                  dvs_device_manager **manager, dvs_refusal *refusal);
+                                  dvs_device_manager **manager,
+                                  dvs_refusal *refusal) DVS_WARN_UNUSED;
 
 /* Destroys a manager, with all its devices, like dvs_address_allocator_destroy(). */
 dvs_status dvs_device_manager_destroy(dvs_device_manager *manager);
 
 /* Writes the first and the last address of the space to `space`. Errors: DVS_NULL. */
-DVS_WARN_UNUSED
-dvs_status dvs_device_manager_space(const dvs_device_manager *manager, dvs_range *space);
+dvs_status dvs_device_manager_space(const dvs_device_manager *manager,
+                                    dvs_range *space) DVS_WARN_UNUSED;
 
 /* Writes the first and the last id for devices. Errors: DVS_NULL. */
-DVS_WARN_UNUSED
 dvs_status dvs_device_manager_ids(const dvs_device_manager *manager, uint32_t *first,
-                                  uint32_t *last);
+                                  uint32_t *last) DVS_WARN_UNUSED;
 
 /*
  * Allocates the lowest free id and the range of dvs_range_allocate_first() for a
@@ -999,21 +969,19 @@ dvs_status dvs_device_manager_ids(const dvs_device_manager *manager, uint32_t *f
  * Errors, in order: those of dvs_id_allocate(), then those of
  * dvs_range_allocate_first().
  */
-DVS_WARN_UNUSED
 dvs_status dvs_device_reserve_first(dvs_device_manager *manager, uint64_t size, uint64_t alignment,
-                                    dvs_device *device, dvs_refusal *refusal);
+                                    dvs_device *device, dvs_refusal *refusal) DVS_WARN_UNUSED;
 
 /* Reserves a device like dvs_device_reserve_first(), with the range of dvs_range_allocate_last().
  */
-DVS_WARN_UNUSED
 dvs_status dvs_device_reserve_last(dvs_device_manager *manager, uint64_t size, uint64_t alignment,
-                                   dvs_device *device, dvs_refusal *refusal);
+                                   dvs_device *device, dvs_refusal *refusal) DVS_WARN_UNUSED;
 
 /* Reserves a device like dvs_device_reserve_first(), with the range of dvs_range_allocate_exact().
  */
-DVS_WARN_UNUSED
 dvs_status dvs_device_reserve_exact(dvs_device_manager *manager, uint64_t size, uint64_t alignment,
-                                    uint64_t start, dvs_device *device, dvs_refusal *refusal);
+                                    uint64_t start, dvs_device *device,
+                                    dvs_refusal *refusal) DVS_WARN_UNUSED;
 
 /*
  * Reserves a device like dvs_device_reserve_first(), with the range of
@@ -1025,9 +993,8 @@ dvs_status dvs_device_reserve_exact(dvs_device_manager *manager, uint64_t size, 
  * - Those of dvs_id_allocate().
  * - The other errors of dvs_range_allocate(), in the same order.
  */
-DVS_WARN_UNUSED
 dvs_status dvs_device_reserve(dvs_device_manager *manager, const dvs_request *request,
-                              dvs_device *device, dvs_refusal *refusal);
+                              dvs_device *device, dvs_refusal *refusal) DVS_WARN_UNUSED;
 
 /*
  * Reserves a device like dvs_device_reserve(), with the lowest free id from
@@ -1036,10 +1003,9 @@ dvs_status dvs_device_reserve(dvs_device_manager *manager, const dvs_request *re
  * Errors: those of dvs_device_reserve(), with those of dvs_id_allocate_in() instead
  * of those of dvs_id_allocate().
  */
-DVS_WARN_UNUSED
 dvs_status dvs_device_reserve_with_id(dvs_device_manager *manager, uint32_t first_id,
                                       uint32_t last_id, const dvs_request *request,
-                                      dvs_device *device, dvs_refusal *refusal);
+                                      dvs_device *device, dvs_refusal *refusal) DVS_WARN_UNUSED;
 
 /*
  * Moves the device with this id to the place of a request, and writes its range there
@@ -1050,17 +1016,15 @@ dvs_status dvs_device_reserve_with_id(dvs_device_manager *manager, uint32_t firs
  * - DVS_NEVER_ALLOCATED, with the id, if no device has it.
  * - The other errors of dvs_range_move_request(), in the same order.
  */
-DVS_WARN_UNUSED
 dvs_status dvs_device_move(dvs_device_manager *manager, uint32_t id, const dvs_request *request,
-                           dvs_range *range, dvs_refusal *refusal);
+                           dvs_range *range, dvs_refusal *refusal) DVS_WARN_UNUSED;
 
 /*
  * Writes to `conflict` why the range of a DVS_EXACT request is not free, like
  * dvs_range_conflict(). The ids do not matter.
  */
-DVS_WARN_UNUSED
 dvs_status dvs_device_conflict(const dvs_device_manager *manager, const dvs_request *request,
-                               dvs_refusal *conflict);
+                               dvs_refusal *conflict) DVS_WARN_UNUSED;
 
 /*
  * Releases a device: frees its id and its range.
@@ -1075,21 +1039,19 @@ dvs_status dvs_device_release(dvs_device_manager *manager, uint32_t id, dvs_refu
  *
  * Errors: DVS_NEVER_ALLOCATED, with the id, if no device has it.
  */
-DVS_WARN_UNUSED
 dvs_status dvs_device_slot(const dvs_device_manager *manager, uint32_t id, dvs_range *range,
-                           dvs_refusal *refusal);
+                           dvs_refusal *refusal) DVS_WARN_UNUSED;
 
 /*
  * Writes the device whose range contains the address to `device`.
  *
  * Errors: DVS_RESOURCE_NOT_AVAILABLE if there is none.
  */
-DVS_WARN_UNUSED
-dvs_status dvs_device_at(const dvs_device_manager *manager, uint64_t address, dvs_device *device);
+dvs_status dvs_device_at(const dvs_device_manager *manager, uint64_t address,
+                         dvs_device *device) DVS_WARN_UNUSED;
 
 /* Writes the number of devices to `count`. Errors: DVS_NULL. */
-DVS_WARN_UNUSED
-dvs_status dvs_device_count(const dvs_device_manager *manager, uint64_t *count);
+dvs_status dvs_device_count(const dvs_device_manager *manager, uint64_t *count) DVS_WARN_UNUSED;
 
 /* The function that dvs_device_visit() calls for each device. It has the rules of
  * dvs_range_visitor. */
@@ -1100,8 +1062,8 @@ dvs_status dvs_device_visit(const dvs_device_manager *manager, dvs_device_visito
                             void *context);
 
 /* Creates a copy of the manager, like dvs_address_allocator_copy(). */
-DVS_WARN_UNUSED
-dvs_status dvs_device_manager_copy(const dvs_device_manager *manager, dvs_device_manager **copied);
+dvs_status dvs_device_manager_copy(const dvs_device_manager *manager,
+                                   dvs_device_manager **copied) DVS_WARN_UNUSED;
 
 /*
  * Creates a copy of the manager's allocator of addresses, for the calls that read
@@ -1116,37 +1078,34 @@ dvs_status dvs_device_manager_copy(const dvs_device_manager *manager, dvs_device
  *
  * Errors: DVS_NULL, DVS_OUT_OF_MEMORY.
  */
-DVS_WARN_UNUSED
 dvs_status dvs_device_manager_copy_addresses(const dvs_device_manager *manager,
-                                             dvs_address_allocator **copied);
+                                             dvs_address_allocator **copied) DVS_WARN_UNUSED;
 
 /* Creates a copy of the manager's allocator of ids, like dvs_device_manager_copy_addresses(). */
-DVS_WARN_UNUSED
 dvs_status dvs_device_manager_copy_ids(const dvs_device_manager *manager,
-                                       dvs_id_allocator **copied);
+                                       dvs_id_allocator **copied) DVS_WARN_UNUSED;
 
 /*
  * Writes to `are_equal` whether both managers have the same space, the same devices
  * and ids that dvs_id_allocator_equal() finds equal. It does not allocate memory.
  * Errors: DVS_NULL.
  */
-DVS_WARN_UNUSED
 dvs_status dvs_device_manager_equal(const dvs_device_manager *one, const dvs_device_manager *other,
-                                    bool *are_equal);
+                                    bool *are_equal) DVS_WARN_UNUSED;
 
 /* Saves like dvs_address_allocator_save(). */
-DVS_WARN_UNUSED
-dvs_status dvs_device_manager_save(const dvs_device_manager *manager, char **text, size_t *length);
+dvs_status dvs_device_manager_save(const dvs_device_manager *manager, char **text,
+                                   size_t *length) DVS_WARN_UNUSED;
 
 /* Reads like dvs_address_allocator_read(). */
-DVS_WARN_UNUSED
-dvs_status dvs_device_manager_read(const char *text, size_t length, dvs_device_manager **manager);
+dvs_status dvs_device_manager_read(const char *text, size_t length,
+                                   dvs_device_manager **manager) DVS_WARN_UNUSED;
 
 /* Reads like dvs_address_allocator_read_within(). */
-DVS_WARN_UNUSED
 dvs_status dvs_device_manager_read_within(const char *text, size_t length,
                                           const dvs_text_limits *limits,
-                                          dvs_device_manager **manager, dvs_text_fault *fault);
+                                          dvs_device_manager **manager,
+                                          dvs_text_fault *fault) DVS_WARN_UNUSED;
 
 /* ---- Maps from ranges to values ---- */
 
@@ -1159,8 +1118,7 @@ dvs_status dvs_device_manager_read_within(const char *text, size_t length,
  * - DVS_OVERFLOW if the last address would be past UINT64_MAX.
  * - DVS_OUT_OF_MEMORY.
  */
-DVS_WARN_UNUSED
-dvs_status dvs_range_map_new(uint64_t base, uint64_t size, dvs_range_map **map);
+dvs_status dvs_range_map_new(uint64_t base, uint64_t size, dvs_range_map **map) DVS_WARN_UNUSED;
 
 /*
  * Destroys a map, with all its allocated ranges, like dvs_address_allocator_destroy(). If
@@ -1178,8 +1136,7 @@ dvs_status dvs_range_map_new(uint64_t base, uint64_t size, dvs_range_map **map);
 dvs_status dvs_range_map_destroy(dvs_range_map *map);
 
 /* Writes the first and the last address of the space to `space`. Errors: DVS_NULL. */
-DVS_WARN_UNUSED
-dvs_status dvs_range_map_space(const dvs_range_map *map, dvs_range *space);
+dvs_status dvs_range_map_space(const dvs_range_map *map, dvs_range *space) DVS_WARN_UNUSED;
 
 /*
  * Allocates the range of `request` like dvs_range_allocate(), with the same errors. It
@@ -1188,9 +1145,8 @@ dvs_status dvs_range_map_space(const dvs_range_map *map, dvs_range *space);
  *
  *     status = dvs_range_map_allocate(map, (uintptr_t)disk, &request, &range, NULL);
  */
-DVS_WARN_UNUSED
 dvs_status dvs_range_map_allocate(dvs_range_map *map, uint64_t value, const dvs_request *request,
-                                  dvs_range *range, dvs_refusal *refusal);
+                                  dvs_range *range, dvs_refusal *refusal) DVS_WARN_UNUSED;
 
 /*
  * Frees an allocated range, and writes its value to `value`. It does not allocate memory.
@@ -1199,25 +1155,23 @@ dvs_status dvs_range_map_allocate(dvs_range_map *map, uint64_t value, const dvs_
  * - DVS_INVALID_RANGE if `range` is not a valid range.
  * - DVS_RESOURCE_NOT_AVAILABLE if exactly this range is not allocated.
  */
-DVS_WARN_UNUSED
 dvs_status dvs_range_map_free(dvs_range_map *map, dvs_range range, uint64_t *value,
-                              dvs_refusal *refusal);
+                              dvs_refusal *refusal) DVS_WARN_UNUSED;
 
 /*
  * Moves an allocated range like dvs_range_move_request(), with the same errors. The range
  * keeps its value.
  */
-DVS_WARN_UNUSED
 dvs_status dvs_range_map_move(dvs_range_map *map, dvs_range range, const dvs_request *request,
-                              dvs_range *moved, dvs_refusal *refusal);
+                              dvs_range *moved, dvs_refusal *refusal) DVS_WARN_UNUSED;
 
 /*
  * Writes the allocated range that contains the address, and its value, to `found`.
  *
  * Errors: DVS_RESOURCE_NOT_AVAILABLE if no allocated range contains it.
  */
-DVS_WARN_UNUSED
-dvs_status dvs_range_map_get(const dvs_range_map *map, uint64_t address, dvs_valued_range *found);
+dvs_status dvs_range_map_get(const dvs_range_map *map, uint64_t address,
+                             dvs_valued_range *found) DVS_WARN_UNUSED;
 
 /*
  * Replaces the value of the allocated range that contains the address, and writes the value
@@ -1225,13 +1179,11 @@ dvs_status dvs_range_map_get(const dvs_range_map *map, uint64_t address, dvs_val
  *
  * Errors: DVS_RESOURCE_NOT_AVAILABLE if no allocated range contains it.
  */
-DVS_WARN_UNUSED
 dvs_status dvs_range_map_set(dvs_range_map *map, uint64_t address, uint64_t value,
-                             uint64_t *before);
+                             uint64_t *before) DVS_WARN_UNUSED;
 
 /* Writes the number of allocated ranges to `count`, in constant time. Errors: DVS_NULL. */
-DVS_WARN_UNUSED
-dvs_status dvs_range_map_count(const dvs_range_map *map, uint64_t *count);
+dvs_status dvs_range_map_count(const dvs_range_map *map, uint64_t *count) DVS_WARN_UNUSED;
 
 /* The function that dvs_range_map_visit() calls for each range. It has the rules of
  * dvs_range_visitor. */
@@ -1242,16 +1194,14 @@ dvs_status dvs_range_map_visit(const dvs_range_map *map, dvs_valued_range_visito
                                void *context);
 
 /* Creates a copy of the map, like dvs_address_allocator_copy(). */
-DVS_WARN_UNUSED
-dvs_status dvs_range_map_copy(const dvs_range_map *map, dvs_range_map **copied);
+dvs_status dvs_range_map_copy(const dvs_range_map *map, dvs_range_map **copied) DVS_WARN_UNUSED;
 
 /*
  * Writes to `are_equal` whether both maps have the same space and the same allocated ranges
  * with the same values. It does not allocate memory. Errors: DVS_NULL.
  */
-DVS_WARN_UNUSED
 dvs_status dvs_range_map_equal(const dvs_range_map *one, const dvs_range_map *other,
-                               bool *are_equal);
+                               bool *are_equal) DVS_WARN_UNUSED;
 
 /* ---- Texts ---- */
 
