@@ -57,9 +57,8 @@ inline const std::error_category &category() noexcept {
  */
 class DVS_MUST_CHECK error : public std::error_code {
   public:
-    error() noexcept = default;
-    error(int status, const std::error_category &owner) noexcept : std::error_code(status, owner) {}
-    error(dvs_status status) noexcept : error(static_cast<int>(status), dvs::category()) {}
+    error(dvs_status status = DVS_OK) noexcept
+        : std::error_code(static_cast<int>(status), dvs::category()) {}
 
     /* The name of the status, such as "DVS_OVERFLOW". */
     const char *name() const noexcept { return dvs_status_name(static_cast<dvs_status>(value())); }
@@ -71,18 +70,6 @@ class DVS_MUST_CHECK error : public std::error_code {
         return !(code == status);
     }
 };
-
-inline error code(dvs_status status) noexcept {
-    return status;
-}
-
-/* The version of the library that runs. */
-inline const char *version_text() noexcept {
-    return dvs_version_text();
-}
-inline uint32_t version_number() noexcept {
-    return dvs_version_number();
-}
 
 /* Why the range at a given start is not available. */
 enum class cause : uint32_t {

@@ -33,7 +33,7 @@ class card {
         for (dvs_range range : ranges)
             bars.emplace_back(mmio, range);
         interrupt = std::move(leased);
-        return dvs::code(DVS_OK);
+        return DVS_OK;
     }
 };
 

@@ -37,25 +37,25 @@ static void allocate() {
     uint64_t length = 0;
 
     CHECK(!space && !space.make(0x1000, 0x1000) && space);
-    CHECK(space.make(0, 0) == dvs::code(DVS_UNDERFLOW) && space);
+    CHECK(space.make(0, 0) == dvs::error(DVS_UNDERFLOW) && space);
     CHECK(!dvs::range_from(0x1000, 0x100, range) && is_range(range, 0x1000, 0x10ff));
     CHECK(!dvs::offset_of(range, 0x1010, length) && length == 0x10);
-    CHECK(dvs::range_from(0x1000, 0, range) == dvs::code(DVS_INVALID_SIZE));
+    CHECK(dvs::range_from(0x1000, 0, range) == dvs::error(DVS_INVALID_SIZE));
     CHECK(!space.allocate_first(0x100, 0x100, range) && is_range(range, 0x1000, 0x10ff));
     CHECK(!space.allocate_last(0x100, 0x100, range) && is_range(range, 0x1f00, 0x1fff));
     CHECK(!space.allocate_exact(0x10, 1, 0x1200, range));
     std::error_code again = space.allocate_exact(0x10, 1, 0x1200, range);
-    CHECK(again == dvs::code(DVS_INVALID_STATE_TRANSITION));
+    CHECK(again == dvs::error(DVS_INVALID_STATE_TRANSITION));
     CHECK(again.message() == "Exactly the requested range is already allocated.");
     CHECK(std::string(again.category().name()) == "divsharun");
     CHECK(ranges_of(space).size() == 3 && is_range(ranges_of(space)[1], 0x1200, 0x120f));
     CHECK(gaps_of(space).size() == 2 && !space.longest_gap(length) && length == 0x1f00 - 0x1210);
     std::vector<dvs_range> ranges;
     CHECK(!space.gap_at(0x1100, range) && is_range(range, 0x1100, 0x11ff));
-    CHECK(space.gap_at(0x10ff, range) == dvs::code(DVS_RESOURCE_NOT_AVAILABLE));
+    CHECK(space.gap_at(0x10ff, range) == dvs::error(DVS_RESOURCE_NOT_AVAILABLE));
     CHECK(!space.ranges_in({0x10ff, 0x1200}, ranges) && ranges.size() == 2);
     CHECK(is_range(ranges[1], 0x1200, 0x120f));
-    CHECK(space.ranges_in({2, 1}, ranges) == dvs::code(DVS_INVALID_RANGE) && ranges.size() == 2);
+    CHECK(space.ranges_in({2, 1}, ranges) == dvs::error(DVS_INVALID_RANGE) && ranges.size() == 2);
     CHECK(!space.gaps_in({0, 0x10ff}, ranges) && ranges.empty());
     CHECK(!space.gaps_in({0x1205, 0x1fff}, ranges) && ranges.size() == 1);
     CHECK(is_range(ranges[0], 0x1210, 0x1eff));
@@ -97,13 +97,13 @@ static void allocate_in_windows() {
     CHECK(!space.allocate({{0x20, 0x20, 0, DVS_LAST, &low}}, range));
     CHECK(is_range(range, 0x1fc0, 0x1fdf));
     CHECK(space.allocate(request::exact(0x20, 1, 0x1fc0).within({0x1fc0, 0x1fc0}), range,
-                         &refusal) == dvs::code(DVS_INVALID_STATE_TRANSITION));
+                         &refusal) == dvs::error(DVS_INVALID_STATE_TRANSITION));
     CHECK(is_range(refusal.range, 0x1fc0, 0x1fdf) && is_range(range, 0x1fc0, 0x1fdf));
     CHECK(space.allocate(request::first(0x10, 1).within({9, 8}), range, &refusal) ==
-          dvs::code(DVS_INVALID_RANGE));
+          dvs::error(DVS_INVALID_RANGE));
     CHECK(is_range(refusal.range, 9, 8) && is_range(refusal.other, 0, 0) && refusal.size == 0 &&
           refusal.id == 0);
-    CHECK(space.allocate({{1, 1, 0, 3, nullptr}}, range) == dvs::code(DVS_INVALID_POLICY));
+    CHECK(space.allocate({{1, 1, 0, 3, nullptr}}, range) == dvs::error(DVS_INVALID_POLICY));
     CHECK(dvs::cause_of(refusal) == dvs::cause::none);
     CHECK(space.allocate(request::exact(2, 1, 0x1fdf), range, &refusal) ==
           DVS_RESOURCE_NOT_AVAILABLE);
@@ -148,7 +148,7 @@ static void allocate_all_in_windows() {
     CHECK(!space.allocate_all(bars, ranges) && ranges.size() == 2);
     CHECK(is_range(ranges[0], 30, 31) && is_range(ranges[1], 46, 47));
     bars.push_back(request::first(1, 1).within({2, 1}));
-    CHECK(space.allocate_all(bars, ranges, &failed, &refusal) == dvs::code(DVS_INVALID_RANGE));
+    CHECK(space.allocate_all(bars, ranges, &failed, &refusal) == dvs::error(DVS_INVALID_RANGE));
     CHECK(failed == 2 && is_range(refusal.range, 2, 1) && ranges_of(space).size() == 4);
     CHECK(is_range(ranges[0], 30, 31) && is_range(ranges[1], 46, 47));
 }
@@ -194,10 +194,10 @@ static void reserve_in_windows() {
     CHECK(!devices.make(5, 6, 0, 64));
     CHECK(!devices.reserve(request::last(8, 8).within({0, 30}), device));
     CHECK(device.id == 5 && is_range(device.range, 16, 23));
-    CHECK(devices.reserve(request::first(0, 8), device, &refusal) == dvs::code(DVS_INVALID_SIZE));
+    CHECK(devices.reserve(request::first(0, 8), device, &refusal) == dvs::error(DVS_INVALID_SIZE));
     CHECK(refusal.size == 0 && device.id == 5);
     CHECK(devices.reserve(request::exact(8, 8, 16).within({16, 16}), device, &refusal) ==
-          dvs::code(DVS_INVALID_STATE_TRANSITION));
+          dvs::error(DVS_INVALID_STATE_TRANSITION));
     CHECK(is_range(refusal.range, 16, 23));
     CHECK(!devices.conflict(request::exact(8, 8, 16).within({0, 30}), refusal));
     CHECK(dvs::cause_of(refusal) == dvs::cause::allocated && is_range(refusal.other, 16, 23));
@@ -211,12 +211,12 @@ static void reserve_in_windows() {
     dvs::address_allocator space;
     dvs::id_allocator ids;
     CHECK(devices.reserve_with_id(6, 6, request::first(8, 8), device, &refusal) ==
-          dvs::code(DVS_RESOURCE_NOT_AVAILABLE));
+          dvs::error(DVS_RESOURCE_NOT_AVAILABLE));
     CHECK(!devices.release(5));
     CHECK(!devices.reserve_with_id(5, 5, request::last(8, 8).within({0, 40}), device));
     CHECK(device.id == 5 && is_range(device.range, 32, 39));
     dvs_range moved;
-    CHECK(devices.move(9, request::first(8, 8), moved) == dvs::code(DVS_NEVER_ALLOCATED));
+    CHECK(devices.move(9, request::first(8, 8), moved) == dvs::error(DVS_NEVER_ALLOCATED));
     CHECK(!devices.move(5, request::exact(16, 8, 48), moved) && is_range(moved, 48, 63));
     CHECK(!devices.move(5, request::last(8, 8).within({0, 40}), moved) && moved.start == 32);
     CHECK(!devices.move(5, request::last(8, 8), moved));
@@ -235,7 +235,7 @@ static void save() {
 
     std::size_t failed = 9;
     CHECK(space.make_with_held(0, 16, {range_of(1, 2), range_of(2, 4)}, &failed) ==
-              dvs::code(DVS_RESOURCE_NOT_AVAILABLE) &&
+              dvs::error(DVS_RESOURCE_NOT_AVAILABLE) &&
           failed == 1);
     CHECK(space.make_with_free({range_of(0, 2), range_of(3, 4), range_of(4, 5)}, &failed) ==
               DVS_RESOURCE_NOT_AVAILABLE &&
@@ -244,7 +244,7 @@ static void save() {
           is_range(ranges_of(space)[0], 3, 3));
     CHECK(!space.make_with_held(0, 16, {range_of(1, 2), range_of(4, 4)}) && !space.save(text));
     CHECK(!copy.read(text) && ranges_of(copy).size() == 2);
-    CHECK(copy.read("{}") == dvs::code(DVS_NOT_A_STATE) && ranges_of(copy).size() == 2);
+    CHECK(copy.read("{}") == dvs::error(DVS_NOT_A_STATE) && ranges_of(copy).size() == 2);
     uint64_t count = 0;
     CHECK(!copy.range_count(count) && count == 2 && !copy.free_length(count) && count == 13);
     CHECK(!copy.gap_count(count) && count == 3);
@@ -252,7 +252,7 @@ static void save() {
     dvs_text_limits limits = {text.size() - 1, 0};
     CHECK(copy.read("{}", &fault) && fault.offset == 2 &&
           fault.field == std::string("address_space"));
-    CHECK(copy.read(text, &fault, &limits) == dvs::code(DVS_LIMIT_EXCEEDED));
+    CHECK(copy.read(text, &fault, &limits) == dvs::error(DVS_LIMIT_EXCEEDED));
     CHECK(!ids.make(5, 9) && !ids.allocate(id) && id == 5 && !ids.allocate(id) && !ids.free(5));
     CHECK(!ids.save(text) && !ids.read(text) &&
           list(ids, &dvs::id_allocator::ids) == std::vector<uint32_t>{6});
@@ -260,7 +260,7 @@ static void save() {
     CHECK(!ids.make_with_held(5, 9, {6}) && !ids.allocate_exact(8) && !ids.allocate_in(7, 9, id));
     CHECK(!ids.free_count(count) && count == 2);
     CHECK(id == 7 && !ids.allocate_all(several) && several == std::vector<uint32_t>({5, 9}));
-    CHECK(ids.allocate_all(several) == dvs::code(DVS_RESOURCE_NOT_AVAILABLE));
+    CHECK(ids.allocate_all(several) == dvs::error(DVS_RESOURCE_NOT_AVAILABLE));
     CHECK(!devices.make(1, 9, 0, 64) && !devices.reserve_first(8, 8, device) && device.id == 1);
     CHECK(!devices.save(text) && !devices.read(text) &&
           list(devices, &dvs::device_manager::devices).size() == 1);
@@ -597,25 +597,22 @@ static void pass_long_lists() {
     CHECK(!ids.allocate_all(several) && several.back() == 2 * count - 1);
 }
 
-static void compare_versions() {
-    CHECK(std::string(dvs::version_text()) == DVS_VERSION_TEXT);
-    CHECK(dvs::version_number() == DVS_VERSION_NUMBER);
-}
-
 static void compare_errors() {
     dvs::address_allocator space;
     dvs::error failure = space.make(UINT64_MAX, 2);
 
     CHECK(failure == DVS_OVERFLOW && failure != DVS_UNDERFLOW && !(failure != DVS_OVERFLOW) &&
-          failure == dvs::code(DVS_OVERFLOW));
+          failure == dvs::error(DVS_OVERFLOW));
     CHECK(failure && failure != std::errc::not_enough_memory);
-    CHECK(dvs::code(DVS_OUT_OF_MEMORY) == std::errc::not_enough_memory);
+    CHECK(dvs::error(DVS_OUT_OF_MEMORY) == std::errc::not_enough_memory);
     for (dvs_status status = 0; status < 100; status++) {
-        CHECK(dvs::code(status).message() == dvs_status_text(status));
-        CHECK(!dvs::code(status) == (status == DVS_OK) && dvs::code(status) == status);
-        CHECK((dvs::code(status) == std::errc::not_enough_memory) == (status == DVS_OUT_OF_MEMORY));
-        CHECK(dvs::code(status) != status + 1 && dvs::code(status) != dvs::code(status + 1));
+        CHECK(dvs::error(status).message() == dvs_status_text(status));
+        CHECK(!dvs::error(status) == (status == DVS_OK) && dvs::error(status) == status);
+        CHECK((dvs::error(status) == std::errc::not_enough_memory) ==
+              (status == DVS_OUT_OF_MEMORY));
+        CHECK(dvs::error(status) != status + 1 && dvs::error(status) != dvs::error(status + 1));
     }
+    CHECK(dvs::error() == dvs::error(DVS_OK) && !dvs::error());
     CHECK(failure.name() == std::string("DVS_OVERFLOW"));
     CHECK(dvs::text_of(dvs::cause::allocated) == std::string("An address is allocated."));
     CHECK(space.make(UINT64_MAX, 1) == DVS_OK);
@@ -1155,7 +1152,6 @@ int main() {
     pass_large_numbers();
     pass_large_ids();
     pass_long_lists();
-    compare_versions();
     compare_errors();
     ask();
     reserve_in_windows();
