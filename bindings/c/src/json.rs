@@ -8,7 +8,7 @@ use crate::status::{
     DVS_OUT_OF_MEMORY,
 };
 use core::ffi::{c_char, CStr};
-use core::{ptr, str};
+use core::ptr;
 
 /// The maximum nesting of a text.
 const MAX_DEPTH: u32 = 128;
@@ -76,7 +76,7 @@ pub(crate) type Read<T> = Result<T, TextFault>;
 
 /// A text, and the offset of the rest that was not read.
 pub(crate) struct Reader<'a> {
-    text: &'a [u8],
+    text: &'a str,
     at: usize,
     // The number of open brackets, and its limit.
     depth: u32,
@@ -91,7 +91,7 @@ impl<'a> Reader<'a> {
         read: impl FnOnce(&mut Reader<'a>) -> Read<T>,
     ) -> Read<T> {
         let mut reader = Reader {
-            text: text.as_bytes(),
+            text,
             at: 0,
             depth: 0,
             limits,
@@ -123,20 +123,23 @@ impl<'a> Reader<'a> {
         };
         let (field, text) = field_and_text(condition);
         let wrong = fields.iter().find(|(name, _)| *name == field);
-        let fault = self.not_a_state(text);
-        let fault = fault.at(wrong.map_or(self.at, |(_, value)| *value));
-        match field {
-            Some(name) => fault.in_field(name),
-            None => fault,
-        }
+        let offset = wrong.map_or(self.at, |(_, value)| *value);
+        let mut fault = self.not_a_state(text).at(offset);
+        fault.details.field = field.map_or(ptr::null(), CStr::as_ptr);
+        fault
+    }
+
+    /// Returns the next byte, without reading it.
+    fn next_byte(&self) -> Option<u8> {
+        self.text.as_bytes().get(self.at).copied()
     }
 
     /// Returns the next byte after white space, without reading it.
     fn peek(&mut self) -> Option<u8> {
-        while let Some(b' ' | b'\t' | b'\n' | b'\r') = self.text.get(self.at) {
+        while let Some(b' ' | b'\t' | b'\n' | b'\r') = self.next_byte() {
             self.at += 1;
         }
-        self.text.get(self.at).copied()
+        self.next_byte()
     }
 
     /// Returns the offset of the next value or name.
@@ -147,9 +150,8 @@ impl<'a> Reader<'a> {
 
     /// Reads a byte if it is next after white space, and returns whether it was.
     fn skip(&mut self, byte: u8) -> bool {
-        let is_next = self.peek() == Some(byte);
-        self.at += usize::from(is_next);
-        is_next
+        self.peek();
+        self.skip_mark(&[byte])
     }
 
     /// Returns the first byte of a value, without reading it.
@@ -294,7 +296,7 @@ impl<'a> Reader<'a> {
 
     /// Reads a word without quotes.
     fn word(&mut self, word: &str) -> Read<()> {
-        if !self.text[self.at..].starts_with(word.as_bytes()) {
+        if !self.text[self.at..].starts_with(word) {
             return Err(self.not_json(c"a value is expected"));
         }
         self.at += word.len();
@@ -305,12 +307,9 @@ impl<'a> Reader<'a> {
     fn number(&mut self) -> Read<Option<u64>> {
         let start = self.at;
         self.skip_mark(b"-");
-        let digits = self.at;
-        let whole = match self.skip_mark(b"0") {
-            true => Some(0),
-            false => self.digits()?,
-        };
-        let end = self.at;
+        if !self.skip_mark(b"0") {
+            self.digits()?;
+        }
         if self.skip_mark(b".") {
             self.digits()?;
         }
@@ -318,41 +317,33 @@ impl<'a> Reader<'a> {
             self.skip_mark(b"+-");
             self.digits()?;
         }
-        if whole.is_some() && (digits, end) == (start, self.at) {
-            return Ok(whole);
+        let number = &self.text[start..self.at];
+        if let Ok(whole) = number.parse() {
+            return Ok(Some(whole));
         }
-        let fault = || self.not_json(c"a number is greater than any double");
-        match self.text_from(start).parse::<f64>() {
-            Ok(number) if number.is_finite() => Ok(None),
-            _ => Err(fault().at(start)),
+        if number.parse().is_ok_and(f64::is_finite) {
+            return Ok(None);
         }
-    }
-
-    /// Returns the text from an offset to the rest, which has only ASCII characters.
-    fn text_from(&self, start: usize) -> &str {
-        str::from_utf8(&self.text[start..self.at]).unwrap_or_default()
+        let fault = self.not_json(c"a number is greater than any double");
+        Err(fault.at(start))
     }
 
     /// Reads one of these bytes if it is next, and returns whether it was.
     fn skip_mark(&mut self, marks: &[u8]) -> bool {
-        let next = self.text.get(self.at);
-        let is_next = next.is_some_and(|byte| marks.contains(byte));
+        let is_next = self.next_byte().is_some_and(|byte| marks.contains(&byte));
         self.at += usize::from(is_next);
         is_next
     }
 
-    /// Reads at least one digit. Returns their number, if it has 64 bits.
-    fn digits(&mut self) -> Read<Option<u64>> {
+    /// Reads at least one digit.
+    fn digits(&mut self) -> Read<()> {
         let start = self.at;
-        let mut number = 0u64;
-        while let Some(digit @ b'0'..=b'9') = self.text.get(self.at) {
-            number = number.wrapping_mul(10).wrapping_add((digit - b'0').into());
+        while let Some(b'0'..=b'9') = self.next_byte() {
             self.at += 1;
         }
-        match self.at - start {
-            0 => Err(self.not_json(c"a value or a digit is expected")),
-            1..=19 => Ok(Some(number)),
-            _ => Ok(self.text_from(start).parse().ok()),
+        match self.at > start {
+            true => Ok(()),
+            false => Err(self.not_json(c"a value or a digit is expected")),
         }
     }
 
@@ -362,7 +353,7 @@ impl<'a> Reader<'a> {
             return Err(self.not_json(c"a string is expected"));
         }
         // Most names have no escape, so the bytes of the text are compared first.
-        let rest = &self.text[self.at..];
+        let rest = &self.text.as_bytes()[self.at..];
         let is_next = |known: &&CStr| {
             let after = rest.strip_prefix(known.to_bytes());
             after.is_some_and(|after| after.starts_with(b"\""))
@@ -385,7 +376,7 @@ impl<'a> Reader<'a> {
 
     /// Reads a character of a string, or its end. Each byte of a character that is not ASCII counts as one.
     fn character(&mut self) -> Read<Option<char>> {
-        let Some(byte @ 0x20..) = self.text.get(self.at).copied() else {
+        let Some(byte @ 0x20..) = self.next_byte() else {
             return Err(self.not_json(c"a string has no end, or a control character"));
         };
         self.at += 1;
@@ -399,7 +390,7 @@ impl<'a> Reader<'a> {
     /// Reads an escape after its backslash, and returns its character.
     fn escape(&mut self) -> Read<char> {
         let fault = self.not_json(c"an escape is not valid");
-        let letter = self.text.get(self.at).copied();
+        let letter = self.next_byte();
         self.at += 1;
         match letter {
             Some(same @ (b'"' | b'\\' | b'/')) => Ok(same.into()),
@@ -428,8 +419,8 @@ impl<'a> Reader<'a> {
     fn utf16_unit(&mut self) -> Option<u16> {
         let digits = self.text.get(self.at..self.at + 4)?;
         self.at += 4;
-        digits.iter().try_fold(0, |unit, digit| {
-            Some(unit * 16 + char::from(*digit).to_digit(16)? as u16)
+        digits.chars().try_fold(0, |unit, digit| {
+            Some(unit * 16 + digit.to_digit(16)? as u16)
         })
     }
 }
