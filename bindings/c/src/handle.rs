@@ -4,7 +4,7 @@
 use crate::proved::vm_addresses::{Error, Result as Answer};
 use crate::rattle::{AllocError, Global, Vec};
 use crate::status::{dvs_status, DVS_BUSY, DVS_NULL};
-use crate::{CallError, Out};
+use crate::CallError;
 use alloc::boxed::Box;
 use core::cell::UnsafeCell;
 use core::ffi::c_int;
@@ -93,14 +93,6 @@ pub(crate) fn visit<'a, T, I: Iterator>(
     }
     handle.visits.fetch_sub(1, Ordering::Relaxed);
     Ok(())
-}
-
-/// Writes the result of a call to `out`, if the call has a result.
-#[inline(always)]
-pub(crate) fn write<A>(answer: A, out: Out<A>) {
-    if let Some(out) = out {
-        out.write(answer);
-    }
 }
 
 /// Returns the item that a look-up has found.

@@ -105,7 +105,9 @@ macro_rules! calls {
                 $(let $result = $crate::handle::non_null($result)?;)?
                 let $first = $crate::objects::argument!($does $first);
                 $(let $request = $request.constraint()?;)?
-                $crate::handle::write($answer, None$(.or(Some($result)))?);
+                // It is not used if the call has no result.
+                let _answer = $answer;
+                $($result.write(_answer);)?
                 Ok(())
             };
             let answer = call();
