@@ -4,12 +4,12 @@
 use crate::handle::{non_null, Handle};
 use crate::objects::calls;
 use crate::proved::vm_addresses::{
-    AddressAllocator, AllocPolicy, Constraint, Error, ListError, RangeInclusive,
+    AddressAllocator, AllocPolicy, Constraint, ListError, RangeInclusive,
 };
 use crate::ranges::dvs_address_allocator;
 use crate::rattle::{self, Global};
 use crate::requests::{because_of, dvs_request, in_the_way, refused};
-use crate::status::{DVS_CAUSE_EARLIER_REQUEST, DVS_NULL};
+use crate::status::{DVS_CAUSE_EARLIER_REQUEST, DVS_NULL, DVS_OUT_OF_MEMORY};
 use crate::{dvs_range, dvs_refusal, CallError, In, Out};
 use alloc::vec::Vec;
 use core::slice;
@@ -25,17 +25,13 @@ use core::slice;
 ///
 /// The pointer is null or points to `count` readable members.
 pub(crate) unsafe fn array<'a, T>(first: *const T, count: usize) -> Result<&'a [T], CallError> {
-    if count == 0 {
-        return Ok(&[]);
+    match count {
+        0 => Ok(&[]),
+        _ if first.is_null() => Err(DVS_NULL.into()),
+        _ if count > isize::MAX as usize / size_of::<T>() => Err(DVS_OUT_OF_MEMORY.into()),
+        // SAFETY: the members are readable, and their size is at most `isize::MAX`.
+        _ => Ok(unsafe { slice::from_raw_parts(first, count) }),
     }
-    if first.is_null() {
-        return Err(DVS_NULL.into());
-    }
-    if count > isize::MAX as usize / size_of::<T>() {
-        return Err(Error::OutOfMemory.into());
-    }
-    // SAFETY: the members are readable, and their size is at most `isize::MAX`.
-    Ok(unsafe { slice::from_raw_parts(first, count) })
 }
 
 impl From<ListError> for CallError {
@@ -45,17 +41,25 @@ impl From<ListError> for CallError {
     }
 }
 
-/// Converts each member of an array.
+/// Converts each member of the array of a caller.
 ///
 /// # Errors
 ///
 /// In this order:
+/// - Those of [`array`].
 /// - The error of the first member that fails, with its index.
 /// - `OutOfMemory` if the allocation of the list fails.
-fn converted<T, P>(
-    members: &[T],
+///
+/// # Safety
+///
+/// The pointer is null or points to `count` readable members.
+unsafe fn converted<T, P>(
+    first: *const T,
+    count: usize,
     convert: impl Fn(&T) -> Result<P, CallError>,
 ) -> Result<Vec<P>, CallError> {
+    // SAFETY: the caller's contract.
+    let members = unsafe { array(first, count) }?;
     for (index, member) in members.iter().enumerate() {
         let index = Some(index);
         convert(member).map_err(|failure| CallError { index, ..failure })?;
@@ -73,18 +77,9 @@ pub(crate) fn write_failed(answer: &Result<(), CallError>, length: usize, failed
     }
 }
 
-/// Converts an array of ranges.
-///
-/// # Safety
-///
-/// The array is null or has `count` readable ranges.
-unsafe fn ranges_of(
-    ranges: *const dvs_range,
-    count: usize,
-) -> Result<Vec<RangeInclusive>, CallError> {
-    // SAFETY: the caller's contract.
-    let ranges = unsafe { array(ranges, count) }?;
-    converted(ranges, |range| Ok((*range).try_into()?))
+/// Returns the range of a caller, or `InvalidRange` if it is not a valid range.
+fn checked(range: &dvs_range) -> Result<RangeInclusive, CallError> {
+    Ok((*range).try_into()?)
 }
 
 /// Returns the details of a request for a given start that only an earlier request of its list is in the way
@@ -99,13 +94,13 @@ calls! {
         base: u64, size: u64, held: *const dvs_range, count: usize
     ) -> made: *mut dvs_address_allocator, failed of count [refusal] {
         // SAFETY: the array is as the header requires.
-        let held = unsafe { ranges_of(held, count) }?;
+        let held = unsafe { converted(held, count, checked) }?;
         Handle::new(AddressAllocator::with_held(Global, base, size, &held)?)?
     }
     takes dvs_address_allocator_with_free(ranges: *const dvs_range, count: usize)
         -> made: *mut dvs_address_allocator, failed of count [refusal] {
         // SAFETY: the array is as the header requires.
-        let free = unsafe { ranges_of(ranges, count) }?;
+        let free = unsafe { converted(ranges, count, checked) }?;
         Handle::new(AddressAllocator::with_free(Global, &free)?)?
     }
     takes dvs_address_allocator_allocate_all(
@@ -118,8 +113,7 @@ calls! {
         }
         let object = allocator.get_mut()?;
         // SAFETY: the array has `count` readable requests.
-        let requests = unsafe { array(requests, count) }?;
-        let requests = converted(requests, dvs_request::constraint)?;
+        let requests = unsafe { converted(requests, count, dvs_request::constraint) }?;
         let allocated = object.allocate_all(Global, &requests);
         let allocated = allocated.map_err(|ListError { index, error }| {
             let details = || {
