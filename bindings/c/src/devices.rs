@@ -49,16 +49,6 @@ fn reserve(
     })
 }
 
-fn reserve_request(
-    manager: &mut DeviceManager,
-    id: IdRequest,
-    request: Constraint,
-    wants_details: bool,
-) -> Result<dvs_device, CallError> {
-    let reserved = manager.reserve_with_id(Global, id, request);
-    answered(reserved, wants_details, || details(manager, id, request))
-}
-
 /// Returns the details of a refused device. If there is no id for it, no range is in the way.
 fn details(manager: &DeviceManager, id: IdRequest, request: Constraint) -> Option<dvs_refusal> {
     manager.ids().peek(id).ok()?;
@@ -105,13 +95,15 @@ calls! {
     }
     changes dvs_device_reserve(manager: In<dvs_device_manager>; request)
         -> device: dvs_device [refusal] {
-        reserve_request(manager, IdRequest::Lowest, request, refusal.is_some())?
+        let reserved = manager.reserve_constraint(Global, request);
+        answered(reserved, refusal.is_some(), || details(manager, IdRequest::Lowest, request))?
     }
     changes dvs_device_reserve_with_id(
         manager: In<dvs_device_manager>, first_id: u32, last_id: u32; request
     ) -> device: dvs_device [refusal] {
         let id = IdRequest::LowestIn(first_id, last_id);
-        reserve_request(manager, id, request, refusal.is_some())?
+        let reserved = manager.reserve_with_id(Global, id, request);
+        answered(reserved, refusal.is_some(), || details(manager, id, request))?
     }
     changes dvs_device_move(manager: In<dvs_device_manager>, id: u32; request)
         -> range: dvs_range [refusal] {
