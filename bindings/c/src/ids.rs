@@ -19,10 +19,8 @@ pub type dvs_id_visitor = extern "C-unwind" fn(context: *mut c_void, id: u32) ->
 
 /// Returns the first id of a list that is not greater than the id before it, or 0 if there is none.
 fn first_not_above(ids: &[u32]) -> u32 {
-    let mut pairs = ids.windows(2);
-    pairs
-        .find(|pair| pair[0] >= pair[1])
-        .map_or(0, |pair| pair[1])
+    let wrong = ids.windows(2).find(|pair| pair[0] >= pair[1]);
+    wrong.map_or(0, |pair| pair[1])
 }
 
 /// Writes the first id of an allocator to `first`, and returns the last one.

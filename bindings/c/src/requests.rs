@@ -34,20 +34,17 @@ impl dvs_request<'_> {
     /// - Those of `Constraint::new`.
     /// - That of `Constraint::within_limits`.
     pub(crate) fn constraint(&self) -> Result<Constraint, CallError> {
-        let request = Constraint::new(self.size, self.alignment, self.policy()?)?;
+        let policy = match self.policy {
+            DVS_FIRST => AllocPolicy::FirstMatch,
+            DVS_LAST => AllocPolicy::LastMatch,
+            DVS_EXACT => AllocPolicy::ExactMatch(self.start),
+            _ => return Err(DVS_INVALID_POLICY.into()),
+        };
+        let request = Constraint::new(self.size, self.alignment, policy)?;
         Ok(match self.window {
             None => request,
             Some(window) => request.within_limits(window.start, window.end)?,
         })
-    }
-
-    fn policy(&self) -> Result<AllocPolicy, CallError> {
-        match self.policy {
-            DVS_FIRST => Ok(AllocPolicy::FirstMatch),
-            DVS_LAST => Ok(AllocPolicy::LastMatch),
-            DVS_EXACT => Ok(AllocPolicy::ExactMatch(self.start)),
-            _ => Err(DVS_INVALID_POLICY.into()),
-        }
     }
 }
 
@@ -97,7 +94,7 @@ pub(crate) fn because_of(cause: u32, request: Constraint, other: dvs_range) -> d
         _ => None,
     };
     dvs_refusal {
-        range: range.map_or(dvs_range::default(), Into::into),
+        range: range.map(Into::into).unwrap_or_default(),
         other,
         cause,
         ..dvs_refusal::default()
