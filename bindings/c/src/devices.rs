@@ -12,14 +12,9 @@ use crate::rattle::Global;
 use crate::requests::{answered, in_the_way};
 use crate::texts::{read_devices, save_devices};
 use crate::{dvs_range, dvs_refusal, CallError, In, Out};
-use core::ffi::{c_int, c_void};
 
 /// A device manager behind a C pointer.
 pub type dvs_device_manager = Handle<DeviceManager>;
-
-/// The visitor that C passes for devices. If it unwinds, the process ends.
-pub type dvs_device_visitor =
-    extern "C-unwind" fn(context: *mut c_void, device: dvs_device) -> c_int;
 
 /// The resources of a device.
 #[repr(C)]
@@ -131,5 +126,5 @@ calls! {
 }
 
 visits! {
-    dvs_device_visit(manager: dvs_device_manager) by dvs_device_visitor { manager.devices() }
+    dvs_device_visit(manager: dvs_device_manager) of dvs_device { manager.devices() }
 }

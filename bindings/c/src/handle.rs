@@ -7,7 +7,7 @@ use crate::status::{dvs_status, DVS_BUSY, DVS_NULL};
 use crate::CallError;
 use alloc::boxed::Box;
 use core::cell::UnsafeCell;
-use core::ffi::c_int;
+use core::ffi::{c_int, c_void};
 use core::sync::atomic::{AtomicUsize, Ordering};
 
 /// An object behind a C pointer.
@@ -75,6 +75,9 @@ impl<T> Handle<T> {
         }
     }
 }
+
+/// A visitor that C passes. If it unwinds, the process ends.
+pub type Visitor<T> = extern "C-unwind" fn(context: *mut c_void, item: T) -> c_int;
 
 /// Calls `visitor` with each item that `items` returns, until it returns a number other than 0. The
 /// object cannot be changed meanwhile. If `items` fails, `visitor` is not called.

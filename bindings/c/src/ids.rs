@@ -9,13 +9,9 @@ use crate::rattle::Global;
 use crate::status::{refused_id, DVS_NULL};
 use crate::texts::{read_ids, text_of};
 use crate::{CallError, In, Out};
-use core::ffi::{c_int, c_void};
 
 /// An id allocator behind a C pointer.
 pub type dvs_id_allocator = Handle<IdAllocator>;
-
-/// The visitor that C passes for allocated ids. If it unwinds, the process ends.
-pub type dvs_id_visitor = extern "C-unwind" fn(context: *mut c_void, id: u32) -> c_int;
 
 /// Returns the first id of a list that is not greater than the id before it, or 0 if there is none.
 fn first_not_above(ids: &[u32]) -> u32 {
@@ -80,5 +76,5 @@ calls! {
 }
 
 visits! {
-    dvs_id_visit(ids: dvs_id_allocator) by dvs_id_visitor { ids.held_ids() }
+    dvs_id_visit(ids: dvs_id_allocator) of u32 { ids.held_ids() }
 }

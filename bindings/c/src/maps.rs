@@ -8,14 +8,9 @@ use crate::ranges::space_of;
 use crate::rattle::Global;
 use crate::requests::{answered, in_the_way};
 use crate::{dvs_range, In};
-use core::ffi::{c_int, c_void};
 
 /// A map behind a C pointer.
 pub type dvs_range_map = Handle<RangeMap>;
-
-/// The visitor that C passes for ranges with values. If it unwinds, the process ends.
-pub type dvs_valued_range_visitor =
-    extern "C-unwind" fn(context: *mut c_void, found: dvs_valued_range) -> c_int;
 
 /// An allocated range and its value.
 #[repr(C)]
@@ -66,5 +61,5 @@ calls! {
 }
 
 visits! {
-    dvs_range_map_visit(map: dvs_range_map) by dvs_valued_range_visitor { map.iter() }
+    dvs_range_map_visit(map: dvs_range_map) of dvs_valued_range { map.iter() }
 }

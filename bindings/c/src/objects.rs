@@ -117,15 +117,15 @@ macro_rules! calls {
     )+};
 }
 
-/// Defines visits of the items that an expression returns, each by a type of visitor. A visit with
+/// Defines visits of the items that an expression returns, each converted to a type of C. A visit with
 /// `[refusal]` also writes the details of an error there.
 macro_rules! visits {
-    ($($name:ident($object:ident: $handle:ident $(, $argument:ident: $type:ty)*) by $visitor:ident
+    ($($name:ident($object:ident: $handle:ident $(, $argument:ident: $type:ty)*) of $item:ty
         $([$refusal:ident])? { $items:expr })+) => {
         $crate::objects::calls! {$(
             takes $name(
                 object: $crate::In<$handle> $(, $argument: $type)*,
-                visitor: Option<$visitor>, context: *mut core::ffi::c_void
+                visitor: Option<$crate::handle::Visitor<$item>>, context: *mut core::ffi::c_void
             ) $([$refusal])? {
                 let visitor = visitor.map(|visitor| move |item| visitor(context, Into::into(item)));
                 $crate::handle::visit(object, |$object| Ok($items), visitor)?

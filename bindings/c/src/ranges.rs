@@ -10,13 +10,9 @@ use crate::rattle::Global;
 use crate::requests::{answered, in_the_way};
 use crate::texts::{read_space, save_space};
 use crate::{dvs_range, dvs_refusal, CallError, In};
-use core::ffi::{c_int, c_void};
 
 /// An address allocator behind a C pointer.
 pub type dvs_address_allocator = Handle<AddressAllocator>;
-
-/// The visitor that C passes for allocated ranges. If it unwinds, the process ends.
-pub type dvs_range_visitor = extern "C-unwind" fn(context: *mut c_void, range: dvs_range) -> c_int;
 
 /// Returns the range from the first to the last address of the space.
 pub(crate) fn space_of(allocator: &AddressAllocator) -> dvs_range {
@@ -58,24 +54,24 @@ fn at_or_below(space: &AddressAllocator, address: u64) -> Answer<RangeInclusive>
 }
 
 visits! {
-    dvs_range_visit(space: dvs_address_allocator) by dvs_range_visitor { space.held_ranges() }
-    dvs_range_visit_in(space: dvs_address_allocator, within: dvs_range) by dvs_range_visitor [refusal] {
+    dvs_range_visit(space: dvs_address_allocator) of dvs_range { space.held_ranges() }
+    dvs_range_visit_in(space: dvs_address_allocator, within: dvs_range) of dvs_range [refusal] {
         space.held_ranges_in(&within.try_into()?)
     }
-    dvs_range_visit_from(space: dvs_address_allocator, address: u64) by dvs_range_visitor {
+    dvs_range_visit_from(space: dvs_address_allocator, address: u64) of dvs_range {
         space.held_ranges_in(&at_or_above(space, address)?)
     }
-    dvs_range_visit_back(space: dvs_address_allocator, address: u64) by dvs_range_visitor {
+    dvs_range_visit_back(space: dvs_address_allocator, address: u64) of dvs_range {
         space.held_ranges_in(&at_or_below(space, address)?).rev()
     }
-    dvs_gap_visit(space: dvs_address_allocator) by dvs_range_visitor { space.gaps() }
-    dvs_gap_visit_in(space: dvs_address_allocator, within: dvs_range) by dvs_range_visitor [refusal] {
+    dvs_gap_visit(space: dvs_address_allocator) of dvs_range { space.gaps() }
+    dvs_gap_visit_in(space: dvs_address_allocator, within: dvs_range) of dvs_range [refusal] {
         space.gaps_in(&within.try_into()?)
     }
-    dvs_gap_visit_from(space: dvs_address_allocator, address: u64) by dvs_range_visitor {
+    dvs_gap_visit_from(space: dvs_address_allocator, address: u64) of dvs_range {
         space.gaps_in(&at_or_above(space, address)?)
     }
-    dvs_gap_visit_back(space: dvs_address_allocator, address: u64) by dvs_range_visitor {
+    dvs_gap_visit_back(space: dvs_address_allocator, address: u64) of dvs_range {
         space.gaps_in(&at_or_below(space, address)?).rev()
     }
 }
