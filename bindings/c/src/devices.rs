@@ -7,7 +7,7 @@ use crate::objects::{calls, object_calls, visits};
 use crate::proved::vm_addresses::{AllocPolicy, Constraint, Error};
 use crate::proved::vm_devices::{DeviceManager, DeviceSlot};
 use crate::proved::vm_ids::IdRequest;
-use crate::ranges::{dvs_address_allocator, space_of};
+use crate::ranges::dvs_address_allocator;
 use crate::rattle::Global;
 use crate::requests::{answered, in_the_way};
 use crate::texts::{read_devices, save_devices};
@@ -82,7 +82,7 @@ calls! {
         found(manager.device_at(address))?
     }
     reads dvs_device_manager_space(manager: In<dvs_device_manager>) -> ends: dvs_range {
-        space_of(manager.addresses())
+        manager.addresses().space().into()
     }
     reads dvs_device_count(manager: In<dvs_device_manager>) -> count: u64 { manager.device_count() }
     changes dvs_device_release(manager: In<dvs_device_manager>, id: u32) [refusal] {

@@ -4,7 +4,6 @@
 use crate::handle::{found, Handle};
 use crate::objects::{calls, object_calls, visits};
 use crate::proved::vm_range_map::{RangeMap, ValuedRange};
-use crate::ranges::space_of;
 use crate::rattle::Global;
 use crate::requests::{answered, in_the_way};
 use crate::{dvs_range, In};
@@ -56,7 +55,7 @@ calls! {
     }
     reads dvs_range_map_count(map: In<dvs_range_map>) -> count: u64 { map.addresses().held_count() }
     reads dvs_range_map_space(map: In<dvs_range_map>) -> ends: dvs_range {
-        space_of(map.addresses())
+        map.addresses().space().into()
     }
 }
 

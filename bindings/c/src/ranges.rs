@@ -14,12 +14,6 @@ use crate::{dvs_range, dvs_refusal, CallError, In};
 /// An address allocator behind a C pointer.
 pub type dvs_address_allocator = Handle<AddressAllocator>;
 
-/// Returns the range from the first to the last address of the space.
-pub(crate) fn space_of(allocator: &AddressAllocator) -> dvs_range {
-    let (start, end) = (allocator.base(), allocator.end());
-    dvs_range { start, end }
-}
-
 #[inline(always)]
 fn allocate(
     space: &mut AddressAllocator,
@@ -128,7 +122,7 @@ calls! {
         found(space.gap_at(address))?
     }
     reads dvs_address_allocator_space(space: In<dvs_address_allocator>) -> ends: dvs_range {
-        space_of(space)
+        space.space().into()
     }
     reads dvs_range_count(space: In<dvs_address_allocator>) -> count: u64 { space.held_count() }
     reads dvs_gap_count(space: In<dvs_address_allocator>) -> count: u64 { space.gap_count() }
