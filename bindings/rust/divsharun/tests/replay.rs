@@ -1,13 +1,15 @@
 // SPDX-License-Identifier: Apache-2.0 OR BSD-3-Clause
-//! Guards against a replay program that differs from the proved one: its results, and its exit status
-//! if a read or a write fails. The arguments are only of this program.
+//! Guards against lines that are split at the end of a read, against results that are written twice, not at all
+//! or to another line, and against a wrong exit status.
 
 mod refusing;
+mod rows;
 
 use divsharun::replay::{run, ReplayError};
 use refusing::refusing;
+use rows::{Rows, FIRST_PROGRAM, PROGRAMS};
 use std::fs::File;
-use std::io::{self, Read, Write};
+use std::io::{self, ErrorKind, Read, Write};
 use std::os::fd::OwnedFd;
 use std::os::unix::net::UnixStream;
 use std::process::{Command, Stdio};
@@ -60,12 +62,24 @@ const LINES: [(&str, &str); 14] = [
     ("undevice", "error line"),
 ];
 
+/// Returns the lines of a table, each with a newline.
+fn input_of(rows: &[(&str, &str)]) -> String {
+    rows.iter().map(|(line, _)| format!("{line}\n")).collect()
+}
+
+/// Returns the results of a table, each with a newline.
+fn output_of(rows: &[(&str, &str)]) -> String {
+    rows.iter()
+        .map(|(_, result)| format!("{result}\n"))
+        .collect()
+}
+
 fn input() -> String {
-    LINES.map(|(line, _)| format!("{line}\n")).concat()
+    input_of(&LINES)
 }
 
 fn output() -> String {
-    LINES.map(|(_, result)| format!("{result}\n")).concat()
+    output_of(&LINES)
 }
 
 // REPLAY.md: "One space separates two words. A number has one to twenty decimal digits. It is at
@@ -125,6 +139,163 @@ fn failed_reads_and_writes_are_errors() {
     assert_eq!(texts, ["reading a line failed", "writing a result failed"]);
     let padded = format!("{:>24}", ReplayError::Read);
     assert_eq!(padded, "   reading a line failed");
+}
+
+/// Returns a text in pieces, and fails at one read. After the error it continues as if there was none.
+struct Pieces<'a> {
+    text: &'a [u8],
+    longest: usize,
+    reads: usize,
+    failing: Option<(usize, ErrorKind)>,
+}
+
+impl<'a> Pieces<'a> {
+    fn new(text: &'a str, longest: usize, failing: Option<(usize, ErrorKind)>) -> Self {
+        Pieces {
+            text: text.as_bytes(),
+            longest,
+            reads: 0,
+            failing,
+        }
+    }
+}
+
+impl Read for Pieces<'_> {
+    fn read(&mut self, bytes: &mut [u8]) -> io::Result<usize> {
+        self.reads += 1;
+        match self.failing {
+            Some((read, fault)) if read == self.reads => Err(fault.into()),
+            _ => self.text.read(&mut bytes[..self.longest.min(4096)]),
+        }
+    }
+}
+
+/// Accepts at most three bytes in a write. It counts writes and flushes, and fails at one write, or at each flush.
+#[derive(Default)]
+struct Sink {
+    text: Vec<u8>,
+    writes: usize,
+    failing_write: Option<usize>,
+    flushes: usize,
+    failing_flush: Option<ErrorKind>,
+}
+
+impl Sink {
+    fn text(&self) -> &str {
+        std::str::from_utf8(&self.text).expect("results are UTF-8")
+    }
+}
+
+impl Write for Sink {
+    fn write(&mut self, bytes: &[u8]) -> io::Result<usize> {
+        self.writes += 1;
+        if self.failing_write == Some(self.writes) {
+            return Err(ErrorKind::BrokenPipe.into());
+        }
+        self.text.write(&bytes[..bytes.len().min(3)])
+    }
+
+    fn flush(&mut self) -> io::Result<()> {
+        self.flushes += 1;
+        self.failing_flush.map_or(Ok(()), |fault| Err(fault.into()))
+    }
+}
+
+/// Checks the output for an input in pieces of several lengths. There is one read for each piece, and one at the end.
+fn expect_output(input: &str, output: &str, name: &str) {
+    for longest in [1, 2, 3, 7, 64, 4096] {
+        let (mut reader, mut writer) = (Pieces::new(input, longest, None), Sink::default());
+        assert_eq!(run(&mut reader, &mut writer), Ok(()), "{name}, {longest}");
+        assert_eq!(writer.text(), output, "{name}, {longest}");
+        let reads = input.len().div_ceil(longest) + 1;
+        let counts = (reader.reads, writer.flushes);
+        assert_eq!(counts, (reads, 1), "{name}, {longest}");
+    }
+}
+
+#[test]
+fn each_program_has_its_output() {
+    for (name, rows) in PROGRAMS {
+        let (input, output) = (input_of(rows), output_of(rows));
+        expect_output(&input, &output, name);
+        expect_output(input.trim_end_matches('\n'), &output, name);
+    }
+}
+
+#[test]
+fn long_lines_are_read_to_their_end() {
+    let rows: Rows = &[("space 16 4", "done"), ("first 1 1", "range 16 16")];
+    for length in [119, 120, 121, 122, 4096, 9000, 100_000] {
+        let line = format!("first {}", "0".repeat(length - 6));
+        expect_output(&line, "error line\n", "a long line alone");
+        let input = format!("{line}\n{}", input_of(rows));
+        let output = format!("error line\n{}", output_of(rows));
+        expect_output(&input, &output, "a long line");
+    }
+}
+
+/// An error of any kind ends the run at once, also an error that asks for a retry.
+#[test]
+fn a_failed_read_leaves_the_results_of_the_ended_lines() {
+    let input = input_of(FIRST_PROGRAM);
+    for (longest, fault) in [1, 2, 3, 7, 64].into_iter().flat_map(|longest| {
+        [ErrorKind::Other, ErrorKind::Interrupted].map(|fault| (longest, fault))
+    }) {
+        for read in 1..=input.len().div_ceil(longest) + 1 {
+            let mut reader = Pieces::new(&input, longest, Some((read, fault)));
+            // The flush would fail too.
+            let mut writer = Sink {
+                failing_flush: Some(fault),
+                ..Sink::default()
+            };
+            assert_eq!(run(&mut reader, &mut writer), Err(ReplayError::Read));
+            let counts = (reader.reads, writer.flushes);
+            assert_eq!(counts, (read, 0), "{fault:?} at read {read} of {longest}");
+            let prefix = &input[..input.len().min((read - 1) * longest)];
+            let ended = prefix.matches('\n').count();
+            assert_eq!(writer.text(), output_of(&FIRST_PROGRAM[..ended]));
+        }
+    }
+}
+
+#[test]
+fn a_failed_write_or_flush_ends_the_run() {
+    // More results than the buffer holds.
+    let input = input_of(FIRST_PROGRAM) + &"x\n".repeat(1000);
+    let mut writer = Sink::default();
+    assert_eq!(run(input.as_bytes(), &mut writer), Ok(()));
+    let output = output_of(FIRST_PROGRAM) + &"error line\n".repeat(1000);
+    assert_eq!(writer.text(), output);
+    let writes = writer.writes;
+    for write in (1..100).chain([writes / 2, writes - 1, writes]) {
+        let mut writer = Sink {
+            failing_write: Some(write),
+            ..Sink::default()
+        };
+        let result = run(input.as_bytes(), &mut writer);
+        assert_eq!((result, writer.flushes), (Err(ReplayError::Write), 0));
+        assert_eq!(writer.writes, write);
+    }
+    for fault in [ErrorKind::Other, ErrorKind::Interrupted] {
+        let mut writer = Sink {
+            failing_flush: Some(fault),
+            ..Sink::default()
+        };
+        let result = run(input.as_bytes(), &mut writer);
+        assert_eq!((result, writer.flushes), (Err(ReplayError::Write), 1));
+        assert_eq!(writer.text(), output);
+    }
+}
+
+#[test]
+fn results_before_a_failed_read_are_written() {
+    for count in [0, 1, 366, 367, 368, 1000] {
+        let mut writer = Sink::default();
+        let input = "x\n".repeat(count);
+        let result = run(input.as_bytes().chain(Fails), &mut writer);
+        assert_eq!((result, writer.flushes), (Err(ReplayError::Read), 0));
+        assert_eq!(writer.text(), "error line\n".repeat(count));
+    }
 }
 
 /// A writer that keeps the number of bytes that were written before the last flush.

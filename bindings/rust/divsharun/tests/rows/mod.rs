@@ -1,7 +1,7 @@
-//! Lines of inputs, each with its reply. Four tests use these tables, because one table of tables
-//! exceeds the step limit of the prover.
+// SPDX-License-Identifier: Apache-2.0 OR BSD-3-Clause
+//! Inputs of the replay program: lines, each with its result.
 
-/// Lines, each with its reply.
+/// Lines, each with its result.
 pub type Rows = &'static [(&'static str, &'static str)];
 
 /// Two ranges are allocated and freed, and leave one gap.
@@ -15,7 +15,7 @@ pub const FIRST_PROGRAM: Rows = &[
 ];
 
 /// Lines that are not in the language, and a line before there is a space.
-pub const LINE_GRAMMAR: Rows = &[
+const LINE_GRAMMAR: Rows = &[
     ("first 1 1", "error no-space"),
     ("", "error line"),
     ("first 01x 1", "error line"),
@@ -29,7 +29,7 @@ pub const LINE_GRAMMAR: Rows = &[
 ];
 
 /// A request for more than is free, and the freeing of a range that no call allocated.
-pub const FULL_SPACE: Rows = &[
+const FULL_SPACE: Rows = &[
     ("space 16 4", "done"),
     ("first 1 1", "range 16 16"),
     ("first 4 1", "error not-available"),
@@ -41,7 +41,7 @@ pub const FULL_SPACE: Rows = &[
 ];
 
 /// Words are separated by one space, and numbers have from one to twenty digits.
-pub const WORDS_AND_NUMBERS: Rows = &[
+const WORDS_AND_NUMBERS: Rows = &[
     ("space 00000000000000000016 4", "done"),
     ("first 000000000000000000001 1", "error line"),
     ("first 1 9999999999999999999", "error invalid-alignment"),
@@ -60,7 +60,7 @@ pub const WORDS_AND_NUMBERS: Rows = &[
 ];
 
 /// The order of the errors. An error for a new space keeps the old one.
-pub const ERRORS_IN_ORDER: Rows = &[
+const ERRORS_IN_ORDER: Rows = &[
     ("free 2 1", "error no-space"),
     ("first 0 3", "error no-space"),
     ("free 2 1 0", "error line"),
@@ -88,7 +88,7 @@ pub const ERRORS_IN_ORDER: Rows = &[
 ];
 
 /// Each error of a line on a space.
-pub const PROGRAM_ERRORS: Rows = &[
+const PROGRAM_ERRORS: Rows = &[
     ("space 0 0", "error underflow"),
     ("space 18446744073709551615 2", "error overflow"),
     ("space 4096 4096", "done"),
@@ -107,7 +107,7 @@ pub const PROGRAM_ERRORS: Rows = &[
 ];
 
 /// Ranges by their starts, and gaps that are joined again.
-pub const PLACES_OF_A_START: Rows = &[
+const PLACES_OF_A_START: Rows = &[
     ("space 0 10", "done"),
     ("exact 1 1 3", "range 3 3"),
     ("exact 1 1 5", "range 5 5"),
@@ -122,7 +122,7 @@ pub const PLACES_OF_A_START: Rows = &[
 ];
 
 /// The errors of the three policies.
-pub const ALL_POLICIES: Rows = &[
+const ALL_POLICIES: Rows = &[
     ("last 1 1", "error no-space"),
     ("exact 1 1 16", "error no-space"),
     ("last 1", "error line"),
@@ -146,7 +146,7 @@ pub const ALL_POLICIES: Rows = &[
 ];
 
 /// Each error of a line on ids.
-pub const PROGRAM_IDS: Rows = &[
+const PROGRAM_IDS: Rows = &[
     ("id", "error no-ids"),
     ("ids 5 5", "done"),
     ("id", "id 5"),
@@ -163,7 +163,7 @@ pub const PROGRAM_IDS: Rows = &[
 ];
 
 /// The order of the errors. An error for new ids keeps the old ones.
-pub const ERRORS_OF_IDS: Rows = &[
+const ERRORS_OF_IDS: Rows = &[
     ("id 1", "error line"),
     ("unid", "error line"),
     ("has", "error line"),
@@ -186,7 +186,7 @@ pub const ERRORS_OF_IDS: Rows = &[
 ];
 
 /// Ids are allocated until they are freed.
-pub const HELD_IDS: Rows = &[
+const HELD_IDS: Rows = &[
     ("ids 7 9", "done"),
     ("has 6", "no"),
     ("has 7", "no"),
@@ -208,7 +208,7 @@ pub const HELD_IDS: Rows = &[
 ];
 
 /// The numbers of lines on ids have 32 bits.
-pub const NUMBERS_OF_32_BITS: Rows = &[
+const NUMBERS_OF_32_BITS: Rows = &[
     ("ids 0 4294967296", "error line"),
     ("ids 4294967296 4294967297", "error line"),
     ("ids 00000000000000000000 00000000004294967295", "done"),
@@ -226,7 +226,7 @@ pub const NUMBERS_OF_32_BITS: Rows = &[
 ];
 
 /// A space and ids share nothing.
-pub const SPACE_BESIDE_IDS: Rows = &[
+const SPACE_BESIDE_IDS: Rows = &[
     ("ids 5 6", "done"),
     ("id", "id 5"),
     ("first 1 1", "error no-space"),
@@ -238,4 +238,152 @@ pub const SPACE_BESIDE_IDS: Rows = &[
     ("first 1 1", "range 6 6"),
     ("space 0 0", "error underflow"),
     ("id", "id 5"),
+];
+
+/// A device has an id and a range together, and both are freed together.
+const PROGRAM_DEVICES: Rows = &[
+    ("device 1 1", "error no-manager"),
+    ("manager 0 1 4096 4096", "done"),
+    ("device 2048 2048", "device 0 4096 6143"),
+    ("device 4096 1", "error not-available"),
+    ("device 1 1", "device 1 6144 6144"),
+    ("device 1 1", "error not-available"),
+    ("undevice 0", "done"),
+    ("undevice 0", "error never-allocated 0"),
+    ("undevice 1", "done"),
+    ("device 4096 1", "device 0 4096 8191"),
+];
+
+/// The error of the id is before the error of the range. An error for a new manager keeps the old
+/// one.
+const ERRORS_OF_DEVICES: Rows = &[
+    ("undevice 0", "error no-manager"),
+    ("device 0 3", "error no-manager"),
+    ("undevice 4294967296", "error line"),
+    ("manager 2 1 0 0", "error invalid-range 2 1"),
+    ("manager 1 2 0 0", "error underflow"),
+    ("manager 1 2 18446744073709551615 2", "error overflow"),
+    ("device 1 1", "error no-manager"),
+    ("manager 1 2 16 4", "done"),
+    ("device 0 3", "error invalid-size 0"),
+    ("device 1 3", "error invalid-alignment"),
+    ("undevice 1", "error never-allocated 1"),
+    ("device 2 2", "device 1 16 17"),
+    ("manager 2 1 0 0", "error invalid-range 2 1"),
+    ("manager 1 2 0 0", "error underflow"),
+    ("manager 1 2 18446744073709551615 2", "error overflow"),
+    ("device 1 1", "device 2 18 18"),
+    ("device 0 3", "error not-available"),
+    ("undevice 3", "error never-allocated 3"),
+    ("undevice 1", "done"),
+    ("device 3 1", "error not-available"),
+    ("device 2 1", "device 1 16 17"),
+    (
+        "manager 4294967295 4294967295 18446744073709551615 1",
+        "done",
+    ),
+    ("device 1 1", "error overflow"),
+    ("manager 4294967295 4294967295 0 4", "done"),
+    ("device 1 1", "device 4294967295 0 0"),
+    ("device 0 3", "error overflow"),
+];
+
+/// The ids of these lines have 32 bits, and the other numbers have 64 bits.
+const WORDS_ON_DEVICES: Rows = &[
+    ("manager", "error line"),
+    ("manager 0", "error line"),
+    ("manager 0 1", "error line"),
+    ("manager 0 1 0", "error line"),
+    ("manager 0 1 0 4 4", "error line"),
+    ("manager 0 1 0 4 ", "error line"),
+    (" manager 0 1 0 4", "error line"),
+    ("manager  0 1 0 4", "error line"),
+    ("manager x 1 0 4", "error line"),
+    ("manager 0 x 0 4", "error line"),
+    ("manager 0 1 x 4", "error line"),
+    ("manager 0 1 0 x", "error line"),
+    ("manager 4294967296 4294967297 0 4", "error line"),
+    ("manager 4294967296 0 0 4", "error line"),
+    ("manager 0 4294967296 0 4", "error line"),
+    ("manager 0 1 18446744073709551616 1", "error line"),
+    ("manager 0 1 0 18446744073709551616", "error line"),
+    ("device 1 1", "error no-manager"),
+    (
+        "manager 00000000000000000000 00000000004294967295 0 18446744073709551615",
+        "done",
+    ),
+    ("device", "error line"),
+    ("device 1", "error line"),
+    ("device 1 1 1", "error line"),
+    ("device 18446744073709551616 1", "error line"),
+    ("device 1 18446744073709551616", "error line"),
+    ("device 4294967296 4294967296", "device 0 0 4294967295"),
+    ("Device 1 1", "error line"),
+    ("undevice", "error line"),
+    ("undevice 0 0", "error line"),
+    ("undevice 0x", "error line"),
+    ("undevice 4294967296", "error line"),
+    ("undevice 18446744073709551616", "error line"),
+    ("undevice 4294967295", "error never-allocated 4294967295"),
+    ("undevice 00000000000000000000", "done"),
+    ("device 1 9223372036854775808", "device 0 0 0"),
+    (
+        "device 1 9223372036854775808",
+        "device 1 9223372036854775808 9223372036854775808",
+    ),
+];
+
+/// A manager, a space and ids share nothing.
+const MANAGER_BESIDE_OTHERS: Rows = &[
+    ("manager 5 6 16 4", "done"),
+    ("first 1 1", "error no-space"),
+    ("id", "error no-ids"),
+    ("device 1 1", "device 5 16 16"),
+    ("space 16 4", "done"),
+    ("ids 5 6", "done"),
+    ("has 5", "no"),
+    ("first 1 1", "range 16 16"),
+    ("id", "id 5"),
+    ("device 2 1", "device 6 17 18"),
+    ("first 1 1", "range 17 17"),
+    ("id", "id 6"),
+    ("free 16 16", "done"),
+    ("unid 5", "id 5"),
+    ("device 1 1", "error not-available"),
+    ("undevice 6", "done"),
+    ("has 6", "yes"),
+    ("free 17 18", "error not-available"),
+    ("space 16 4", "done"),
+    ("ids 5 6", "done"),
+    ("device 4 1", "error not-available"),
+    ("undevice 5", "done"),
+    ("undevice 5", "error never-allocated 5"),
+    ("first 1 1", "range 16 16"),
+    ("id", "id 5"),
+    ("manager 5 6 16 4", "done"),
+    ("has 5", "yes"),
+    ("free 16 16", "done"),
+    ("device 4 1", "device 5 16 19"),
+];
+
+/// All tables, by name.
+pub const PROGRAMS: [(&str, Rows); 18] = [
+    ("no line", &[]),
+    ("first program", FIRST_PROGRAM),
+    ("line grammar", LINE_GRAMMAR),
+    ("full space", FULL_SPACE),
+    ("words and numbers", WORDS_AND_NUMBERS),
+    ("errors in order", ERRORS_IN_ORDER),
+    ("errors of a program", PROGRAM_ERRORS),
+    ("places of a start", PLACES_OF_A_START),
+    ("all policies", ALL_POLICIES),
+    ("ids", PROGRAM_IDS),
+    ("errors of ids", ERRORS_OF_IDS),
+    ("held ids", HELD_IDS),
+    ("numbers of 32 bits", NUMBERS_OF_32_BITS),
+    ("a space beside ids", SPACE_BESIDE_IDS),
+    ("devices", PROGRAM_DEVICES),
+    ("errors of devices", ERRORS_OF_DEVICES),
+    ("words on devices", WORDS_ON_DEVICES),
+    ("a manager beside others", MANAGER_BESIDE_OTHERS),
 ];
