@@ -1,7 +1,6 @@
-//! Tests of `vm_devices` through its public calls, and of values and callers of all libraries.
-//! `vm_addresses_tests` and `vm_ids_tests` have the others.
+//! Tests of values and callers of several libraries. The other crates of tests have those of one library.
 //!
-//! They guard against what no clause excludes:
+//! All of them guard against what no clause excludes:
 //! - a call that allocates although it needs no memory.
 //! - a call that recurses as deep as a value.
 //! - a definition whose meaning is not that of its words.
@@ -10,13 +9,7 @@
 #[cfg(test)]
 mod deep;
 #[cfg(test)]
-mod devices;
-#[cfg(test)]
-mod fields;
-#[cfg(test)]
 mod fixtures;
-#[cfg(test)]
-mod plugging;
 #[cfg(test)]
 mod uses;
 #[cfg(test)]

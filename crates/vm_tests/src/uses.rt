@@ -6,24 +6,19 @@ ghost use Rattle.serde_json.specs.View.{view};
 ghost use Rattle.std.specs.List.{Contains};
 ghost use Rattle.vm_allocator.specs.Range.{address_count};
 ghost use Rattle.vm_allocator.specs.Allocator.{state_of};
-ghost use Rattle.vm_allocator.specs.Counts.Parts.{AllocatesInParts};
 ghost use Rattle.vm_allocator.specs.Ids.{IsHeld};
-ghost use Rattle.vm_devices.specs.Devices.{MovesDevice};
 ghost use Rattle.vm_devices.specs.Manager.{device_state, made_manager};
-ghost use Rattle.vm_devices.specs.Queries.{DeviceAt};
 ghost use Rattle.vm_devices.specs.Saved.{EncodesManager, ReadsInParts};
 
 use crate::fixtures::{ENOUGH, expect_true, made, range};
-use crate::plugging::replugged;
 use crate::windows::{restored, windows};
 use serde_json::Value;
 use std::alloc::{AllocError, Global};
 use std::process::Abort;
 use vm_allocator::{
-    AddressAllocator, AllocPolicy, Constraint, Error, IdAllocator, IdRequest, RangeInclusive,
-    Ranges, Result, ValueError,
+    AddressAllocator, AllocPolicy, Error, IdAllocator, RangeInclusive, Ranges, Result, ValueError,
 };
-use vm_devices::{DeviceManager, DeviceSlot};
+use vm_devices::DeviceManager;
 
 /// Allocates a bar, which must start at a multiple of its size.
 #[tactic(auto, using(vm_allocator::proofs::Callers::callers))]
@@ -58,37 +53,6 @@ fn take_interrupt(numbers: &mut IdAllocator) -> Result<u32>
     ensures held { IfOk result (λ number. IsHeld numbers.new number) }
 {
     numbers.allocate_id()
-}
-
-/// Plugs a device in with an id. The tree of its addresses comes from at most one allocation and one free.
-fn plug(
-    alloc: Global,
-    devices: &mut DeviceManager,
-    id: u32,
-    request: Constraint,
-) -> Result<DeviceSlot>
-    ensures { AllocatesInParts (λ m. m.addresses) devices.old request result devices.new }
-{
-    devices.reserve_with_id(alloc, IdRequest::Exact(id), request)
-}
-
-/// Returns the device that has an address.
-fn owner(devices: &DeviceManager, address: u64) -> Option<DeviceSlot>
-    ensures { DeviceAt (device_state devices.now) address result }
-{
-    devices.device_at(address)
-}
-
-/// Moves the range of a device.
-fn moved(
-    alloc: Global,
-    devices: &mut DeviceManager,
-    id: u32,
-    request: Constraint,
-) -> Result<RangeInclusive>
-    ensures { MovesDevice (device_state devices.old) id request result (device_state devices.new) }
-{
-    devices.move_constraint(alloc, id, request)
 }
 
 /// Reads a manager.
@@ -190,17 +154,6 @@ fn use_texts(rt: &(impl Abort + AllocGlobal), gap: &AddressAllocator) {
     }
 }
 
-/// Plugs a device in.
-fn use_devices(rt: &(impl Abort + AllocGlobal)) {
-    let made = DeviceManager::new(rt.alloc(), 5, 23, 0xE000_0000, 0x1000);
-    let mut devices = made.expect(rt, ENOUGH);
-    let request = Constraint::new(0x1000, 1, AllocPolicy::FirstMatch).expect(rt, ENOUGH);
-    let slot = plug(rt.alloc(), &mut devices, 7, request).expect(rt, ENOUGH);
-    expect_true(rt, owner(&devices, 0xE000_0FFF) == Some(slot), &slot);
-    let stays = moved(rt.alloc(), &mut devices, 7, request);
-    expect_true(rt, stays == Ok(slot.range), &stays);
-}
-
 /// Clones iterators over the allocated ranges and the gaps.
 fn use_clones(rt: &(impl Abort + AllocGlobal), gap: &AddressAllocator) {
     if let Ok(mut again) = ranges_again(&gap.held_ranges()) {
@@ -250,13 +203,4 @@ fn uses(rt: HostRuntime) {
     use_clones(&rt, &gap);
     use_memory(&rt);
     use_numbers(&rt);
-    use_devices(&rt);
-}
-
-#[test]
-fn replugs(rt: HostRuntime) {
-    let (first, again) = replugged(rt.alloc()).expect(&rt, "there is room");
-    let window = range(&rt, 0xD000_0000, 0xD000_0FFF);
-    expect_true(&rt, first.id == 0 && first.range == window, &first);
-    expect_true(&rt, again == first, &again);
 }

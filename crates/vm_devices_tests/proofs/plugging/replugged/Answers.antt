@@ -1,6 +1,6 @@
 use Rattle.std.proofs.Common.{sym}
 use Rattle.vm_devices.proofs.Callers.{released_fits_again, fits_again_is_reserved}
-use Rattle.vm_tests.proofs.plugging.replugged.Goals as goal
+use Rattle.vm_devices_tests.proofs.plugging.replugged.Goals as goal
 
 pub returns : goal.returns
 returns c =
