@@ -65,7 +65,7 @@ EDITS = [
     *[item(code, "a type 'String'") for code in (
         "impl Eq for String {}", "impl From<String> for RangeInclusive {}", "fn f(x: String) { 1 }",
         "fn f() -> String { 1 }", "const Y: String = 1;", "struct X { x: String }", "struct X<T: String> {}")],
-    *each(item, "Box Iterator Ord Ordering Value u64 u8x16", "struct WORD {}", "a definition of 'WORD'"),
+    *each(item, "Box Iterator Ord Ordering Value u64", "struct WORD {}", "a definition of 'WORD'"),
     *each(item, "cfg(any()) cfg(all(test,unix)) cfg_attr(test,inline) must_use path=\"x\" repr(u8) test", "#[WORD]",
           "an attribute '"),
     *each(item, "async extern macro_rules union unsafe", "WORD X {}", "an item 'WORD'"),

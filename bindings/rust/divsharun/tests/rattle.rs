@@ -1,5 +1,5 @@
 // SPDX-License-Identifier: Apache-2.0 OR BSD-3-Clause
-//! Guards against boxes and lists with other results than Rust's library, and against wrong masks of bytes.
+//! Guards against boxes and lists with other results than Rust's library.
 //! If an allocation fails, a call must change nothing, and lose neither its argument nor a block.
 
 extern crate alloc;
