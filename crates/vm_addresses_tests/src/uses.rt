@@ -228,8 +228,8 @@ fn uses(rt: HostRuntime) {
         &(2, 1),
         &"allocated ranges",
     );
-    let last = (range(&rt, 12, 15), NodeState::Allocated);
-    expect_eq(&rt, &parts(&other).next_back(), &Some(last), &"a range");
+    let last = (range(&rt, 12, 15), NodeState::Free);
+    expect_eq(&rt, &parts(&other).next_back(), &Some(last), &"a gap");
     expect_true(
         &rt,
         comes_first(&other, &space),
