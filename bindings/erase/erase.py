@@ -53,11 +53,11 @@ ASSOCIATED = {
     "Box::new", "Ord::cmp",
     "Ordering::Equal", "Ordering::Greater", "Ordering::Less", "Value::Null", "Value::as_u64", "Value::from",
     "Value::try_from_str", "Vec::new", "Vec::with_capacity", "mem::replace", "u128::from", "u32::MAX", "u32::try_from",
-    "u32::from", "u64::MAX", "u64::from", "usize::MAX", "usize::from",
+    "u32::from", "u64::MAX", "u64::from", "usize::from",
 }
 # Methods of types of other crates. Each was compared with the method of Rust.
 METHODS = set("""and_then as_array as_object as_slice as_str as_u64 capacity checked_add checked_mul checked_sub clone cmp
-    contains copied copy_from_slice copy_within enumerate extend_from_slice first first_chunk flush get ilog2 insert into
+    contains copy_from_slice copy_within enumerate extend_from_slice first flush get ilog2 insert into
     is_ascii_digit is_empty is_none is_null is_power_of_two is_some iter last len max min next
     next_back ok ok_or partition_point pop pop_first position push range read remove reserve rotate_left saturating_add
     saturating_sub split_at split_first split_last take trailing_zeros truncate unwrap

@@ -1,6 +1,6 @@
 // SPDX-License-Identifier: Apache-2.0 OR BSD-3-Clause
-//! Guards against lines that are split at the end of a read, against results that are written twice, not at all
-//! or to another line, and against a wrong exit status.
+//! Guards against lines that are split at the end of a read, and against results that are written twice, not at
+//! all or to another line. The exit status is only of the program.
 
 mod refusing;
 mod rows;
