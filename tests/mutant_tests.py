@@ -8,7 +8,7 @@ No clause excludes these mutants. The first line of a patch names the change, an
     count_rule: TEXT     tests/count_rule or error_rule, with a part of its output
     memory: TEXT         divsharun/tests/memory.rs, with a part of its output. It counts the allocations of
                          calls, and makes each fail in turn
-    calls: TEXT          divsharun/tests/calls.rs in the same way
+    calls: TEXT          divsharun/tests/calls.rs in the same way, and replay.rs
 
 count_rule compiles the sources, so it checks two mutants at once that are in different crates. The exit status is
 1 if a check does not notice a mutant, or if a test fails without one."""
@@ -26,7 +26,7 @@ TOP = os.path.dirname(os.path.dirname(os.path.abspath(__file__)))
 PROJECT, SCRATCH = (os.path.abspath(argument) for argument in sys.argv[1:3])
 COPY = os.path.join(SCRATCH, "project")
 BOX_COUNT, DIVSHARUN = (os.path.join(SCRATCH, "rust", name) for name in ("box_count", "divsharun"))
-TESTS = ("memory", "calls")
+TESTS = ("memory", "calls", "replay")
 # A backtrace would take longer than the test.
 ENVIRONMENT = dict(os.environ, CARGO_TARGET_DIR=os.path.join(SCRATCH, "target"), RUST_BACKTRACE="0")
 

@@ -31,9 +31,9 @@ quietly() { # command ..: shows the end of its output if it fails
     "$@" > "$log" 2>&1 || { tail -n 60 "$log"; return 1; }
 }
 
-begin() { # command or function ..: starts it in its own group, with a lower priority, and does not wait
+begin() { # command or function ..: starts it in its own group, with the lowest priority, and does not wait
     set -m
-    (log=$scratch/${1##*/}.log; renice -n 10 "$BASHPID" > "$log"; "$@") > "$scratch/${1##*/}.out" 2>&1 &
+    (log=$scratch/${1##*/}.log; renice -n 19 "$BASHPID" > "$log"; "$@") > "$scratch/${1##*/}.out" 2>&1 &
     beside[$*]=$!
     set +m
 }

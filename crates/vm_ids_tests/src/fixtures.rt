@@ -3,7 +3,7 @@ use serde_json::Value;
 use std::alloc::Global;
 use std::fmt::Debug;
 use std::process::Abort;
-use vm_ids::IdAllocator;
+use vm_allocator::IdAllocator;
 
 /// The number of bytes that `fail_from_here` allocates. Nothing else allocates this number.
 /// tests/refused_memory reads it here.

@@ -6,8 +6,7 @@ use crate::fixtures::{expect_eq, expect_true, fail_from_here, parsed, saved_ids}
 use Call::{Allocate, Count, Fields, Free, Holds, Peek, TakeAll};
 use Expected::{AlreadyReleased, Id, NeverAllocated, NotAvailable, OutOfRange, Overflow};
 use std::process::Abort;
-use vm_ids::IdAllocator;
-use vm_ranges::{Error, Result};
+use vm_allocator::{Error, IdAllocator, Result};
 
 mod requests;
 mod saved;

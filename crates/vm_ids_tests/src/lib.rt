@@ -1,4 +1,4 @@
-//! Tests of `vm_ids` through its public calls.
+//! Tests of ids through the public calls of `vm_allocator`.
 //!
 //! They guard against what no clause excludes, as those of `vm_tests`.
 #![tactic(auto)]

@@ -2,14 +2,13 @@
 //! what it needs.
 ghost use Rattle.std.specs.Prelude.{◌≡◌, ◌↔◌, drop, IsTrue, IfOk, MatchResult, Ok, Err};
 ghost use Rattle.std.specs.Ordering.{eq_by_cmp};
-ghost use Rattle.vm_ids.specs.IdOrder.{id_state_cmp};
-ghost use Rattle.vm_ids.specs.Ids.{IsHeld, IsLowestNotHeld, held_ids};
-ghost use Rattle.vm_ids.specs.IdRequests.{AllocatesExactId, AllocatesIdIn, AllocatesIds, MakesWithHeldIds};
+ghost use Rattle.vm_allocator.specs.IdOrder.{id_state_cmp};
+ghost use Rattle.vm_allocator.specs.Ids.{IsHeld, IsLowestNotHeld, held_ids};
+ghost use Rattle.vm_allocator.specs.IdRequests.{AllocatesExactId, AllocatesIdIn, AllocatesIds, MakesWithHeldIds};
 
 use crate::fixtures::{ENOUGH, expect_eq, expect_true};
 use std::alloc::Global;
-use vm_ids::{HeldIds, IdAllocator};
-use vm_ranges::Result;
+use vm_allocator::{HeldIds, IdAllocator, Result};
 
 /// Creates an allocator of which some ids are allocated.
 fn with_allocated(alloc: Global, first: u32, last: u32, held: &[u32]) -> Result<IdAllocator>

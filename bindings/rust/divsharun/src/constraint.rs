@@ -6,9 +6,6 @@ use core::fmt;
 use core::hash::{Hash, Hasher};
 use core::ops::{Bound, RangeBounds};
 
-/// The alignment for requests that need no particular one.
-pub const DEFAULT_CONSTRAINT_ALIGN: u64 = proved::DEFAULT_CONSTRAINT_ALIGN;
-
 /// A valid request for addresses.
 ///
 /// Its size is not 0, its alignment is a power of two, and the start of an `ExactMatch` is a

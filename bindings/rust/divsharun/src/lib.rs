@@ -260,13 +260,13 @@ mod traits;
 
 pub use address_allocator::{AddressAllocator, Gaps, GapsIn, HeldRanges, HeldRangesIn};
 pub use conflict::Conflict;
-pub use constraint::{Constraint, Window, DEFAULT_CONSTRAINT_ALIGN};
+pub use constraint::{Constraint, Window};
 pub use device_manager::{DeviceManager, DeviceSlot, Devices};
 pub use error::{Error, ListError, Result, TryError};
 pub use id_allocator::{HeldIds, IdAllocator};
 pub use layout::{Block, Blocks, Layout};
 pub use proved::vm_ids::IdRequest;
-pub use proved::vm_ranges::{AllocPolicy, NodeState};
+pub use proved::vm_ranges::{AllocPolicy, NodeState, DEFAULT_CONSTRAINT_ALIGN};
 pub use range::{ParseRangeError, RangeInclusive};
 pub use range_map::{RangeMap, ValuedRanges};
 #[cfg(feature = "serde")]

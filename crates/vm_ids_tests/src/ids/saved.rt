@@ -4,7 +4,7 @@
 //! vm-allocator that is not read, and against a check of a value that allocates.
 use super::*;
 use crate::fixtures::{ENOUGH, items};
-use vm_ranges::ValueError;
+use vm_allocator::ValueError;
 
 #[test]
 fn read_ones(rt: HostRuntime) {
