@@ -32,6 +32,7 @@ quietly() { # command ..: shows the end of its output if it fails
 }
 
 begin() { # command or function ..: starts it in its own group, with the lowest priority, and does not wait
+    [ -z "${IN_TURN-}" ] || return 0 # `ended` runs it
     set -m
     (log=$scratch/${1##*/}.log; renice -n 19 "$BASHPID" > "$log"; "$@") > "$scratch/${1##*/}.out" 2>&1 &
     beside[$*]=$!

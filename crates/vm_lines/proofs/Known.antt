@@ -2,7 +2,7 @@
 use Rattle.std.proofs.Common.{◌≡◌, ℕ, List, [], ◌++◌, Option, Some, None, refl, sym, ap, ◌∙◌, subst, append-nil, append_assoc, take, length, ◌<◌}
 use Rattle.std.specs.Io.KnownBytes.{Appends, Consumes, IsAtEnd}
 use Rattle.std.proofs.KnownBytes.{Appends-nil, Appends-trans}
-use Rattle.vm_lines.specs.Lines.{lines_of, ended_lines_of}
+use Rattle.vm_commands.specs.Lines.{lines_of, ended_lines_of}
 use Rattle.vm_lines.specs.Moving.{MovesText}
 use Rattle.vm_lines.specs.Runs.{MayAnswer, AppendsAnswers, AnswersInput, AnswersEndedLines}
 

@@ -1,9 +1,3 @@
-pub mod Splitting
-pub mod Names
-pub mod Numerals
-pub mod FirstNumber
-pub mod IdNumbers
-pub mod Decimals
 pub mod Parts
 pub mod Known
 pub mod Progress

@@ -13,8 +13,8 @@ use Rattle.vm_addresses.proofs.Results.InMemory.{placed_once, made_once}
 use Rattle.vm_ids.proofs.Ids.IdResults.{making_is_determined, allocating_is_determined}
 use Rattle.vm_ids.proofs.Ids.SameIdCalls.{id_calls_are_determined}
 use Rattle.vm_ids.specs.Histories.IdHistories.{Free as FreeId}
-use Rattle.vm_lines.specs.Commands.{command_of}
-use Rattle.vm_lines.specs.Lines.{newline}
+use Rattle.vm_commands.specs.Commands.{command_of}
+use Rattle.vm_commands.specs.Lines.{newline}
 use Rattle.vm_ids.specs.declared.id_request.IdRequest.TheVariants.{Lowest}
 use Rattle.vm_devices.specs.Devices.{DeviceState}
 use Rattle.vm_devices.specs.Histories.{Reserve, Release}
@@ -22,8 +22,8 @@ use Rattle.vm_devices.proofs.DevicesOnce.{devices_decide}
 use Rattle.vm_lines.specs.Machines.{Machine, start, with_space, with_ids, with_devices, OnPart, OnSpace, OnIds, OnDevices, AllocatesRange, FreesRange, Does}
 use Rattle.vm_lines.specs.Replies.{text_of, done_reply, range_reply, id_reply, device_reply}
 use Rattle.vm_lines.specs.Laws.{AreAnsweredInMemory, OneText}
-use Rattle.vm_lines.specs.declared.command.Command.{Command}
-use Rattle.vm_lines.specs.declared.command.Command.TheVariants.{Space, First, Last, Exact, Free, Ids, Id, Unid, Has, Manager, Device, Undevice, Malformed}
+use Rattle.vm_commands.specs.declared.command.Command.{Command}
+use Rattle.vm_commands.specs.declared.command.Command.TheVariants.{Space, First, Last, Exact, Free, Ids, Id, Unid, Has, Manager, Device, Undevice, Malformed}
 use Rattle.vm_lines.specs.declared.reply.Reply.{Reply}
 use Rattle.vm_lines.specs.declared.reply.Reply.TheVariants.{Held, Failed, NoSpace, NoIds, NoManager}
 

@@ -3,7 +3,7 @@ use Rattle.std.proofs.Common.{◌≡◌, ℕ, ◌<◌, Bool, true, false, List, 
 use Rattle.std.specs.Prelude.{if◌then◌else◌}
 use Rattle.std.specs.List.{onto_first}
 use Rattle.std.proofs.lemmas.List.Splits.{length-slice_split}
-use Rattle.vm_lines.specs.Lines.{newline, parts_of, lines_among, ended_among}
+use Rattle.vm_commands.specs.Lines.{newline, parts_of, lines_among, ended_among}
 
 -- The parts of two texts that are joined: the last part of the first continues with the first part of the second.
 abbrev pub glued : List (List ℕ) → List (List ℕ) → List (List ℕ)

@@ -32,9 +32,9 @@ use Rattle.std.proofs.Common.{
 }
 use Rattle.std.specs.Prelude.{if◌then◌else◌, MatchBool, position}
 use Rattle.std.proofs.lemmas.Bool.Decides.{nat_tests}
-use Rattle.vm_lines.specs.Commands.{command_of, max_line_len}
+use Rattle.vm_commands.specs.Commands.{command_of, max_line_len}
 use Rattle.vm_lines.specs.declared.reply.Reply.{Reply}
-use Rattle.vm_lines.specs.Lines.{newline, parts_of, lines_of, ended_lines_of, lines_among, ended_among}
+use Rattle.vm_commands.specs.Lines.{newline, parts_of, lines_of, ended_lines_of, lines_among, ended_among}
 use Rattle.vm_lines.specs.Machines.{Machine, start, Does}
 use Rattle.vm_lines.specs.Replies.{text_of}
 use Rattle.vm_lines.specs.Runs.{AreAnswered, MayAnswer}
@@ -51,7 +51,7 @@ use Rattle.vm_lines.specs.Sessions.{
   AnswersLastLine,
 }
 use Rattle.vm_lines.proofs.Parts.{glued, some_parts, parts_glued, glued_is, ended_is, lines_are}
-use Rattle.vm_lines.proofs.Splitting.{parts_some, parts_none}
+use Rattle.vm_commands.proofs.Splitting.{parts_some, parts_none}
 
 -- A copied line after more bytes.
 append_more : (line bytes : List ℕ) → line_after (within_max_len line) bytes ≡ within_max_len (line ++ bytes)

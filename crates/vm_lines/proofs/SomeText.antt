@@ -8,9 +8,9 @@ use Rattle.vm_ranges.specs.Request.{Request, request_for}
 use Rattle.vm_ranges.specs.declared.constraint.AllocPolicy.TheVariants.{FirstMatch, LastMatch, ExactMatch}
 use Rattle.vm_ranges.specs.declared.error.Error.{Error}
 use Rattle.vm_ranges.specs.declared.error.Error.TheVariants.{InvalidRange, OutOfMemory}
-use Rattle.vm_lines.specs.Commands.{command_of}
+use Rattle.vm_commands.specs.Commands.{command_of}
 use Rattle.vm_lines.specs.Laws.{HasReply, HasText, AreAnsweredInMemory}
-use Rattle.vm_lines.specs.Lines.{newline}
+use Rattle.vm_commands.specs.Lines.{newline}
 use Rattle.vm_devices.specs.declared.device_slot.DeviceSlot.{DeviceSlot}
 use Rattle.vm_ids.specs.declared.id_request.IdRequest.TheVariants.{Lowest}
 use Rattle.vm_devices.specs.Devices.{DeviceState}
@@ -23,8 +23,8 @@ use Rattle.vm_ids.proofs.Ids.EveryIdCall.{every_call as every_id_call}
 use Rattle.vm_lines.specs.Machines.{Machine, start, with_space, with_ids, with_devices, OnPart, OnSpace, OnIds, OnDevices, FreesRange, AllocatesRange, Does}
 use Rattle.vm_lines.specs.Replies.{text_of, done_reply, range_reply, id_reply, device_reply}
 use Rattle.vm_lines.specs.Runs.{AreAnswered}
-use Rattle.vm_lines.specs.declared.command.Command.{Command}
-use Rattle.vm_lines.specs.declared.command.Command.TheVariants.{Space, First, Last, Exact, Free, Ids, Id, Unid, Has, Manager, Device, Undevice, Malformed}
+use Rattle.vm_commands.specs.declared.command.Command.{Command}
+use Rattle.vm_commands.specs.declared.command.Command.TheVariants.{Space, First, Last, Exact, Free, Ids, Id, Unid, Has, Manager, Device, Undevice, Malformed}
 use Rattle.vm_lines.specs.declared.reply.Reply.{Reply}
 use Rattle.vm_lines.specs.declared.reply.Reply.TheVariants.{Held, Failed, NoSpace, NoIds, NoManager, NotInLanguage}
 use Rattle.vm_addresses.proofs.Decisions.{decided_range}

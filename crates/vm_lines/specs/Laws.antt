@@ -1,8 +1,8 @@
 -- Laws that follow only from the definitions.
 use Rattle.std.specs.Prelude.{◌≡◌, ◌≢◌, ℕ, List, [], ◌∷◌, ◌++◌}
 use Rattle.vm_ranges.specs.declared.error.Error.TheVariants.{OutOfMemory}
-use Rattle.vm_lines.specs.Commands.{command_of}
-use Rattle.vm_lines.specs.Lines.{newline}
+use Rattle.vm_commands.specs.Commands.{command_of}
+use Rattle.vm_commands.specs.Lines.{newline}
 use Rattle.vm_lines.specs.Machines.{Machine, start, Does}
 use Rattle.vm_lines.specs.Replies.{text_of}
 use Rattle.vm_lines.specs.Runs.{MayAnswer}

@@ -1,10 +1,4 @@
-pub mod Numbers
-pub mod Words
-pub mod Commands
-pub mod Reading
-pub mod Lines
 pub mod Replies
-pub mod Printing
 pub mod Machines
 pub mod Runs
 pub mod Sessions

@@ -15,8 +15,8 @@ use Rattle.vm_ids.specs.declared.id_request.IdRequest.TheVariants.{Lowest}
 use Rattle.vm_devices.specs.declared.device_slot.DeviceSlot.{DeviceSlot}
 use Rattle.vm_devices.specs.Devices.{DeviceState, device_state_code, MakesManager, Reserves, Releases as ReleasesDevice}
 use Rattle.vm_lines.specs.Replies.{done_reply, range_reply, id_reply, device_reply}
-use Rattle.vm_lines.specs.declared.command.Command.{Command}
-use Rattle.vm_lines.specs.declared.command.Command.TheVariants.{Space, First, Last, Exact, Free, Ids, Id, Unid, Has, Manager, Device, Undevice, Malformed}
+use Rattle.vm_commands.specs.declared.command.Command.{Command}
+use Rattle.vm_commands.specs.declared.command.Command.TheVariants.{Space, First, Last, Exact, Free, Ids, Id, Unid, Has, Manager, Device, Undevice, Malformed}
 use Rattle.vm_lines.specs.declared.reply.Reply.{Reply}
 use Rattle.vm_lines.specs.declared.reply.Reply.TheVariants.{Held, NoSpace, NoIds, NoManager, NotInLanguage}
 

@@ -18,7 +18,7 @@ use Rattle.vm_ranges.specs.declared.error.Error.TheVariants.{
   OutOfMemory,
 }
 use Rattle.vm_devices.specs.declared.device_slot.DeviceSlot.{DeviceSlot}
-use Rattle.vm_lines.specs.Words.{blank_byte}
+use Rattle.vm_commands.specs.Words.{blank_byte}
 use Rattle.vm_lines.specs.declared.reply.Reply.{Reply}
 use Rattle.vm_lines.specs.declared.reply.Reply.TheVariants.{Done, Given, Id, Held, Device, Failed, NoSpace, NoIds, NoManager, NotInLanguage}
 

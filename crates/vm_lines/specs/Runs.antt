@@ -1,7 +1,7 @@
 -- The output of the lines of a text.
 use Rattle.std.specs.Prelude.{◌≡◌, ℕ, List, [], ◌∷◌, ◌++◌, Option, Some, IfSome}
-use Rattle.vm_lines.specs.Commands.{command_of}
-use Rattle.vm_lines.specs.Lines.{newline, lines_of, ended_lines_of}
+use Rattle.vm_commands.specs.Commands.{command_of}
+use Rattle.vm_commands.specs.Lines.{newline, lines_of, ended_lines_of}
 use Rattle.vm_lines.specs.Machines.{Machine, start, Does}
 use Rattle.vm_lines.specs.Replies.{text_of}
 use Rattle.vm_lines.specs.declared.reply.Reply.{Reply}

@@ -1,12 +1,12 @@
 -- A session between two pieces of its input.
 use Rattle.std.specs.Prelude.{◌≡◌, ℕ, if◌then◌else◌, nat_le, nat_lt, List, [], ◌∷◌, ◌++◌, length, Option, Some, None, Bool, true, MatchBool, refl}
 use Rattle.std.specs.Coded.{Coded, code_by, coded×, coded_ℕ, coded_list, coded_option}
-use Rattle.vm_lines.specs.Commands.{command_of, max_line_len}
-use Rattle.vm_lines.specs.declared.command.Command.TheVariants.{Malformed}
-use Rattle.vm_lines.specs.Lines.{newline, parts_of}
+use Rattle.vm_commands.specs.Commands.{command_of, max_line_len}
+use Rattle.vm_commands.specs.declared.command.Command.TheVariants.{Malformed}
+use Rattle.vm_commands.specs.Lines.{newline, parts_of}
 use Rattle.vm_lines.specs.Machines.{Machine, machine_code, Does}
 use Rattle.vm_lines.specs.Replies.{text_of}
-use Rattle.vm_lines.specs.declared.command.Command.{Command}
+use Rattle.vm_commands.specs.declared.command.Command.{Command}
 use Rattle.vm_lines.specs.declared.reply.Reply.{Reply}
 
 -- The machine of the lines so far, and the line that has begun, or None if it is too long.

@@ -18,14 +18,10 @@
 //! - The exit status of the program. No clause states that its output was flushed.
 #![tactic(auto)]
 
-mod buffer;
-mod command;
 mod laws;
 mod machine;
-mod number;
 mod replay;
 mod reply;
 mod session;
-mod words;
 
 pub use replay::{RunError, run};

@@ -5,11 +5,11 @@ ghost use Rattle.vm_ranges.specs.Request.{request_for};
 ghost use Rattle.vm_lines.specs.Machines.{AllocatesRange, FreesRange, replaced_if_ok};
 ghost use Rattle.vm_lines.specs.Replies.{done_reply};
 
-use crate::command::Command;
 use crate::reply::{Reply, device_reply, done_reply, id_reply, range_reply};
 use std::alloc::Global;
 use std::marker::Model;
 use vm_addresses::{AddressAllocator, AllocPolicy, RangeInclusive, Result};
+use vm_commands::Command;
 use vm_devices::DeviceManager;
 use vm_ids::IdAllocator;
 

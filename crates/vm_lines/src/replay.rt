@@ -2,17 +2,17 @@
 //! replies through a buffer.
 ghost use Rattle.std.specs.Prelude.{◌≡◌, ◌==◌, ◌++◌, [], ◌+◌, ◌<◌, ℕ, List, length, position, OnOk, IfErr, IsErrOf, Some};
 ghost use Rattle.std.specs.Io.KnownBytes.{Appends};
-ghost use Rattle.vm_lines.specs.Lines.{newline};
+ghost use Rattle.vm_commands.specs.Lines.{newline};
 ghost use Rattle.vm_lines.specs.Machines.{start};
 ghost use Rattle.vm_lines.specs.Sessions.{AnswersPiece, AnswersLastLine};
 ghost use Rattle.vm_lines.specs.Moving.{MovesText};
 ghost use Rattle.vm_lines.specs.Runs.{AnswersInput, AnswersEndedLines};
 
-use crate::buffer::{Buffer, CAPACITY};
 use crate::reply::MAX_REPLY_LEN;
 use crate::session::Session;
 use std::alloc::Global;
 use std::io::{Read, Write};
+use vm_commands::{Buffer, CAPACITY};
 
 /// The maximum number of bytes of one read.
 const READ_SIZE: usize = 4096;

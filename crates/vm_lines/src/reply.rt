@@ -2,9 +2,8 @@
 ghost use Rattle.std.specs.Prelude.{◌≡◌, ◌++◌, ◌+◌, ◌≤◌, length, decimal};
 ghost use Rattle.vm_lines.specs.Replies.{text_of, error_text, pair_text, device_text, done_reply, range_reply, id_reply, device_reply};
 
-use crate::buffer::{Buffer, CAPACITY};
-use crate::number::MAX_DIGITS;
 use vm_addresses::{Error, RangeInclusive, Result};
+use vm_commands::{Buffer, CAPACITY, MAX_DIGITS};
 use vm_devices::DeviceSlot;
 
 /// The maximum length of a reply in bytes, without its newline: the length of the error for an

@@ -6,12 +6,11 @@ ghost use Rattle.std.specs.Prelude.{◌≡◌, ◌++◌, [], ◌+◌, ◌<◌, �
 ghost use Rattle.vm_lines.specs.Machines.{start};
 ghost use Rattle.vm_lines.specs.Sessions.{EndsLine, pending_command, line_after, with_more, has_begun};
 
-use crate::buffer::{Buffer, CAPACITY};
-use crate::command::{Command, MAX_LINE_LEN, parse};
 use crate::machine::Machine;
 use crate::reply::{MAX_REPLY_LEN, write_reply};
 use std::alloc::Global;
 use std::marker::Model;
+use vm_commands::{Buffer, CAPACITY, Command, MAX_LINE_LEN, parse};
 
 /// The machine of the lines so far, and the line that has begun.
 #[derive(Drop)]
@@ -25,7 +24,7 @@ pub(crate) struct Session {
 impl Model for Session {
     ghost use Rattle.std.specs.Prelude.{◌≡◌, ◌≤◌, Some, None, if◌then◌else◌, length, take};
     ghost use Rattle.vm_lines.specs.Sessions.{Session, session_code};
-    ghost use Rattle.vm_lines.specs.declared.command.TheConstants.{MAX_LINE_LEN};
+    ghost use Rattle.vm_commands.specs.declared.command.TheConstants.{MAX_LINE_LEN};
 
     ghost Value = { Session };
 

@@ -10,6 +10,7 @@
 
 pub mod vm_addresses;
 mod vm_chunks;
+mod vm_commands;
 pub mod vm_devices;
 pub mod vm_ids;
 mod vm_leaf;

@@ -1,6 +1,6 @@
 use Rattle.std.proofs.Common.{◌<◌, ◌^◌, arith, rules}
 use Rattle.std.specs.Prelude.{codes}
-use Rattle.vm_lines.proofs.Decimals.{id_behind}
+use Rattle.vm_commands.proofs.Decimals.{id_behind}
 use Rattle.vm_lines.proofs.reply.write_device.Goals as goal
 
 pub push_pair-requires : goal.push_pair-requires

@@ -3,9 +3,9 @@
 //! The space, the ids and the devices of a session, and the effect of each command on them.
 
 use crate::proved::vm_addresses::{AddressAllocator, AllocPolicy, RangeInclusive, Result};
+use crate::proved::vm_commands::Command;
 use crate::proved::vm_devices::DeviceManager;
 use crate::proved::vm_ids::IdAllocator;
-use crate::proved::vm_lines::command::Command;
 use crate::proved::vm_lines::reply::{device_reply, done_reply, id_reply, range_reply, Reply};
 use crate::rattle::Global;
 

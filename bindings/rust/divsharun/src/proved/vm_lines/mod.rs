@@ -3,13 +3,9 @@
 //! The replay language: each line is a call of an allocator or of a manager of devices, and has one
 //! line of output.
 
-mod buffer;
-mod command;
 mod machine;
-mod number;
 mod replay;
 mod reply;
 mod session;
-mod words;
 
 pub use replay::{run, RunError};

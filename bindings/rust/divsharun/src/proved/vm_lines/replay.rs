@@ -3,7 +3,7 @@
 //! Runs the replay language: reads pieces of the input, splits them into lines, and writes the
 //! replies through a buffer.
 
-use crate::proved::vm_lines::buffer::{Buffer, CAPACITY};
+use crate::proved::vm_commands::{Buffer, CAPACITY};
 use crate::proved::vm_lines::reply::MAX_REPLY_LEN;
 use crate::proved::vm_lines::session::Session;
 use crate::rattle::Global;

@@ -3,8 +3,8 @@
 //! Replies to lines, and their text.
 
 use crate::proved::vm_addresses::{Error, RangeInclusive, Result};
+use crate::proved::vm_commands::Buffer;
 use crate::proved::vm_devices::DeviceSlot;
-use crate::proved::vm_lines::buffer::Buffer;
 
 /// The maximum length of a reply in bytes, without its newline: the length of the error for an
 /// invalid range.

@@ -5,8 +5,7 @@
 //! A line is parsed in its piece of the input without a copy. It is copied only if it began in an
 //! earlier piece.
 
-use crate::proved::vm_lines::buffer::Buffer;
-use crate::proved::vm_lines::command::{parse, Command, MAX_LINE_LEN};
+use crate::proved::vm_commands::{parse, Buffer, Command, MAX_LINE_LEN};
 use crate::proved::vm_lines::machine::Machine;
 use crate::proved::vm_lines::reply::write_reply;
 use crate::rattle::Global;

@@ -1,9 +1,0 @@
-//! Tests of `vm_range_map` through its public calls.
-//!
-//! They guard against what no clause excludes, as those of `vm_tests`.
-#![tactic(auto)]
-
-#[cfg(test)]
-mod fixtures;
-#[cfg(test)]
-mod maps;
