@@ -34,9 +34,8 @@ FOLDERS = {
 FOLDERS_OF_TESTS = {
     "std": ("std", {"io"}),
     "std::fmt": ("core::fmt", {"Debug", "Display"}),
-    "std::io": ("std::io", {"ErrorKind", "Read", "Write"}),
+    "std::io": ("std::io", {"Read", "Write"}),
     "std::process": ("crate::testing", {"Abort"}),
-    "std::str": ("core::str", {"from_utf8"}),
 }
 LIBRARIES = {folder.split("::")[0] for folder in FOLDERS}
 # Libraries whose items only proved modules can use. They alone can also use a public function of another library
