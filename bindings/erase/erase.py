@@ -32,9 +32,7 @@ FOLDERS = {
     "thiserror": (None, {"Error"}),
 }
 FOLDERS_OF_TESTS = {
-    "std": ("std", {"io"}),
     "std::fmt": ("core::fmt", {"Debug", "Display"}),
-    "std::io": ("std::io", {"Read", "Write"}),
     "std::process": ("crate::testing", {"Abort"}),
 }
 LIBRARIES = {folder.split("::")[0] for folder in FOLDERS}
@@ -66,7 +64,6 @@ DERIVES = {"Clone", "Copy", "Debug", "Default", "Drop", "Eq", "Error", "Hash", "
 TRAITS = {"DoubleEndedIterator", "Eq", "ExactSizeIterator", "From", "Iterator", "Ord", "PartialEq", "PartialOrd"}
 # Names that no item of a crate may have, because the tables mean the items of the libraries.
 TAKEN = (PRELUDE | NAMES | NUMBERS | TRAITS | {path.split("::")[0] for path in ASSOCIATED}) - {"Result"}
-TRAITS_OF_TESTS = {"Read", "Write"}
 ATTRIBUTES = {"allow", "cold", "default", "error", "inline"}
 KEYWORDS = set("_ as bool break else false for if in let match mut pub return str true while Self".split())
 PATHS = {"crate", "self", "super"}
@@ -533,7 +530,7 @@ class File(Tokens):
             self.refuse_if(not self.at(index + 1, "}"), "a member of Model that is no ghost", index + 1)
             return index + 2, False
         known = TRAITS.union(*(crate.traits for crate in self.crate.and_below()))
-        is_allowed = not trait or trait in known or self.of_tests and trait in TRAITS_OF_TESTS
+        is_allowed = not trait or trait in known
         self.refuse_if(not is_allowed, f"an impl of {trait!r}", item.keyword)
         first, kept = self.first_kept, self.kept
         self.first_kept = first or self.start_of(item.start)

@@ -174,7 +174,7 @@ def unused(project):
     """Returns the names in tables of the eraser that no source has, so that no table has more than it must."""
     text = "".join(path.read_text("utf-8") for path in pathlib.Path(project, "crates").rglob("*.rt"))
     words = set(re.findall(r"\w+", text))
-    tables = "METHODS ASSOCIATED MACROS DERIVES TRAITS TRAITS_OF_TESTS ATTRIBUTES KEYWORDS NAMES NUMBERS PRELUDE"
+    tables = "METHODS ASSOCIATED MACROS DERIVES TRAITS ATTRIBUTES KEYWORDS NAMES NUMBERS PRELUDE"
     names = {name for table in tables.split() for name in getattr(erase, table)}
     for _, imported in [*erase.FOLDERS.values(), *erase.FOLDERS_OF_TESTS.values()]:
         names |= imported
