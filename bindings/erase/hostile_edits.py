@@ -156,17 +156,22 @@ def faults_of_program(project, out):
     os.utime(written[0], (0, 0))
     subprocess.run(command, capture_output=True, check=False)
     faults += ["a file is written again with the same text"] * (written[0].stat().st_mtime != 0)
-    return faults + faults_of_second(project, pathlib.Path(out, "vm_ranges", "range.rs"))
+    return faults + faults_of_second(project, pathlib.Path(out, "vm_ranges"))
 
 
-def faults_of_second(project, plain):
+def faults_of_second(project, folder):
     """Returns the edits of a written module that second_eraser.py accepts, and an output that it rejects."""
-    text = plain.read_text("utf-8")
     wrong = []
-    for old, new in [("", ""), ("self.end", "self.start"), ("}\n", "}\nfn more() { 1 }\n"), ("&&", "||"), ("use ", "use core::cmp::max;\nuse "), (text, "")]:
-        plain.write_text(text.replace(old, new, 1), "utf-8")
-        second = subprocess.run([sys.executable, SECOND, project, plain.parent.parent], capture_output=True, check=False)
+    for name, old, new in [("range.rs", "", ""), ("range.rs", "self.end", "self.start"), ("range.rs", "}\n", "}\nfn more() { 1 }\n"),
+                           ("range.rs", "&&", "||"), ("range.rs", "use ", "use core::cmp::max;\nuse "), ("range.rs", None, ""),
+                           ("error.rs", "is not in", "is in"), ("error.rs", "{field_0}-{field_1}", "{field_1}-{field_0}"),
+                           ("../mod.rs", "pub mod", "mod"), ("../mod.rs", "pub mod", "use core::mem;\npub mod")]:
+        plain = folder / name
+        text = plain.read_text("utf-8")
+        plain.write_text(text.replace(text if old is None else old, new, 1), "utf-8")
+        second = subprocess.run([sys.executable, SECOND, project, folder.parent], capture_output=True, check=False)
         wrong += [f"second_eraser.py ends with {second.returncode} for {new}"] * (second.returncode != int(old != new))
+        plain.write_text(text, "utf-8")
     return wrong
 
 

@@ -6,7 +6,8 @@
 It removes the pieces of each source that only the prover uses, one after the other, and replaces paths. The
 rest must be the tokens that the first eraser has written to PROVED, without comments. Imports and modules can
 be fewer, because the compiler finds a name that is missing. Of a file that imports serde_json, only the
-modules are left. The exit status is 1 if there is a difference."""
+modules are left. The texts of errors must be the same, and mod.rs must have the modules of all crates. The exit
+status is 1 if there is a difference."""
 import os
 import pathlib
 import re
@@ -38,6 +39,9 @@ ADDED = re.compile(
     r"fn fmt\(&self, f: &mut core::fmt::Formatter<'_>\) -> core::fmt::Result \{\s+"
     r"match self \{\s+(?:\w+::\w+(?:\(field_0(?:, field_1)?\))? => write!\(f, \".*\"\),\s+)+\}\s+\}\s+\}\s+"
     r"impl core::error::Error for \w+ \{\}")
+# An error and its text, in a source and as written.
+ERROR = re.compile(r'#\[error\("(.*)"\)\]\s+(?:///.*\s+)*(\w+)')
+WRITTEN_ERROR = re.compile(r'\w+::(\w+)(?:\(field_0(?:, field_1)?\))? => write!\(f, "(.*)"\)')
 # Imports that only the first eraser writes.
 PRELUDE = {"crate::rattle::Box", "crate::rattle::Vec"}
 
@@ -127,13 +131,29 @@ def compare(source, plain, crate):
     if crate in INNER:
         text = re.sub(r"\bpub (?!\()", "pub(in crate::proved) ", text)
     text = re.sub(r"\bpub (?=(?:const )?fn \w+[^{}]*\brequires\b)", "pub(in crate::proved) ", text)
+    written = plain.read_text(encoding="utf-8")
     want, wanted = parted(tokens_of(text), is_of_values)
-    have, named = parted(tokens_of(ADDED.sub("", plain.read_text(encoding="utf-8"))))
+    have, named = parted(tokens_of(ADDED.sub("", written)))
+    want += [] if is_of_values else [word for error, name in ERROR.findall(text) for word in (name, error)]
+    have += [word.replace("{field_", "{") for pair in WRITTEN_ERROR.findall(written) for word in pair]
     if want == have and named <= wanted | PRELUDE:
         return True
     at = next((place for place, pair in enumerate(zip(want, have)) if pair[0] != pair[1]), 0)
     print(f"{plain}: expected {want[at:at + 9]}, written {have[at:at + 9]} and {named - wanted}")
     return False
+
+
+def has_all_modules(proved):
+    """Returns `true` if mod.rs has a module for each folder, and nothing else but comments and attributes. A module
+    is public unless only proved modules use it, and depends on the feature `std` if it reads and writes."""
+    want = ""
+    for folder in sorted(path for path in proved.iterdir() if path.is_dir()):
+        needs_std = any("use std::io::" in path.read_text(encoding="utf-8") for path in folder.rglob("*.rs"))
+        want += '#[cfg(feature = "std")]\n' * needs_std + "pub " * (folder.name not in INNER) + f"mod {folder.name};\n"
+    have = re.sub(r"(?m)^(?://.*|#!\[.*)?\n", "", (proved / "mod.rs").read_text(encoding="utf-8"))
+    if have != want:
+        print(f"mod.rs: expected {want}, written {have}")
+    return have == want
 
 
 def main():
@@ -147,7 +167,7 @@ def main():
         source = project / "crates" / crate / "src" / os.path.join(*rest)
         same += compare(source.with_name("lib.rt") if rest == ["mod.rt"] else source, path, crate)
     print(f"{same} of {len(files)} files have the tokens of their sources")
-    sys.exit(same < len(files))
+    sys.exit(not has_all_modules(proved) or same < len(files))
 
 
 if __name__ == "__main__":
