@@ -8,7 +8,8 @@ No clause excludes these mutants. The first line of a patch names the change, an
     count_rule: TEXT     tests/count_rule or error_rule, with a part of its output
     memory: TEXT         divsharun/tests/memory.rs, with a part of its output. It counts the allocations of
                          calls, and makes each fail in turn
-    calls: TEXT          divsharun/tests/calls.rs in the same way, and replay.rs
+    calls: TEXT          divsharun/tests/calls.rs in the same way
+    replay: TEXT         divsharun/tests/replay.rs in the same way
 
 count_rule compiles the sources, so it checks two mutants at once that are in different crates. The exit status is
 1 if a check does not notice a mutant, or if a test fails without one."""
