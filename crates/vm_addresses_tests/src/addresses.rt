@@ -4,13 +4,14 @@
 //! `free`: which range is chosen, and which of several errors is returned.
 use crate::fixtures::{expect_eq, expect_true, made};
 use AllocPolicy::{ExactMatch, FirstMatch, LastMatch};
-use Call::{Exact, ExactIn, First, FirstIn, Free, Last, LastIn, Move, Space};
+use Call::{Exact, ExactIn, Find, First, FirstIn, Free, Last, LastIn, Move, Space};
 use Expected::{Held, NoAlignment, NoSize, NotAvailable, Overflow, Range, Unaligned, Underflow};
 use std::alloc::Global;
 use std::process::Abort;
 use vm_allocator::allocation_engine::NodeState::Allocated;
 use vm_allocator::{AddressAllocator, AllocPolicy, Constraint, Error, RangeInclusive, Result};
 
+mod by_name;
 mod differences;
 mod ends;
 mod with_held;
@@ -43,15 +44,17 @@ enum Call {
     Free(u64, u64),
     /// Moves a range, by its first and its last address, to a start.
     Move(u64, u64, u64),
+    /// Looks up the allocated range that contains a range, by the first and the last address of this.
+    Find(u64, u64),
 }
 
-/// The first and the last address of the new space, or of the range that is allocated, freed or moved.
+/// The first and the last address of the new space, or of the range that is allocated, freed, moved or found.
 type Answer = Result<(u64, u64)>;
 
 /// The expected result of a call.
 #[derive(Clone, Copy)]
 enum Expected {
-    /// The first and the last address of the space or range that is created, allocated or freed.
+    /// The first and the last address of the space or range.
     Range(u64, u64),
     /// An error because exactly this range is allocated.
     Held(u64, u64),
@@ -88,6 +91,7 @@ impl Call {
             Space(base, size) => replace(space, alloc, base, size),
             Free(start, end) => free(space, start, end),
             Move(start, end, to) => move_range(space, alloc, start, end, to),
+            Find(start, end) => find(space, start, end),
             First(..) | Last(..) | Exact(..) => {
                 let (size, alignment, policy) = self.asked();
                 ends_of(space.allocate(alloc, size, alignment, policy))
@@ -106,7 +110,7 @@ impl Call {
             Exact(size, alignment, start) | ExactIn(size, alignment, start, _) => {
                 (size, alignment, ExactMatch(start))
             }
-            Space(..) | Free(..) | Move(..) => (0, 0, FirstMatch),
+            Space(..) | Free(..) | Move(..) | Find(..) => (0, 0, FirstMatch),
         }
     }
 
@@ -149,6 +153,15 @@ fn move_range(
     ends_of(space.move_range(alloc, &range, to))
 }
 
+/// Returns the allocated range that contains a range.
+fn find(space: &AddressAllocator, start: u64, end: u64) -> Answer {
+    let key = RangeInclusive::new(start, end)?;
+    match space.held_at(start) {
+        Some(held) if held.contains(&key) => Ok((held.start(), held.end())),
+        _ => Err(Error::ResourceNotAvailable),
+    }
+}
+
 /// Frees a range.
 fn free(space: &mut AddressAllocator, start: u64, end: u64) -> Answer {
     space.free(&RangeInclusive::new(start, end)?)?;
@@ -163,7 +176,7 @@ fn replay(
 ) {
     for (call, want) in rows {
         let answer = call.ask(space, rt.alloc());
-        expect_eq(rt, &answer, &want.answer(), call);
+        expect_eq(rt, answer, want.answer(), call);
     }
 }
 

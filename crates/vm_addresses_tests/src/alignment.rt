@@ -19,7 +19,7 @@ fn test_range_align_up(rt: HostRuntime) {
         (MAX, 0, Err(Error::InvalidAlignment)),
     ] {
         let answer = align_up(address, alignment);
-        expect_eq(&rt, &answer, &want, &(address, alignment));
+        expect_eq(&rt, answer, want, (address, alignment));
     }
-    expect_eq(&rt, &align_down(7, 4), &Ok(4), &(7, 4));
+    expect_eq(&rt, align_down(7, 4), Ok(4), (7, 4));
 }

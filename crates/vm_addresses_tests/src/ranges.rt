@@ -20,7 +20,7 @@ fn expect_lengths(rt: &impl Abort, rows: &[(u64, u64, std::result::Result<u64, E
             Ok(range) => Ok(range.len()),
             Err(error) => Err(error),
         };
-        expect_eq(rt, &length, want, &(*start, *end));
+        expect_eq(rt, &length, want, (*start, *end));
     }
 }
 
@@ -52,7 +52,7 @@ fn test_range_overlaps(rt: HostRuntime) {
         let first = range(&rt, start, end);
         let second = range(&rt, other.0, other.1);
         let answers = (first.overlaps(&second), second.overlaps(&first));
-        expect_eq(&rt, &answers, &(want, want), &(first, second));
+        expect_eq(&rt, answers, (want, want), (first, second));
     }
     expect_lengths(&rt, &[(1, 4, Ok(4))]);
 }
@@ -73,7 +73,7 @@ fn test_range_contain(rt: HostRuntime) {
     for ((start, end), other, want) in rows {
         let first = range(&rt, start, end);
         let second = range(&rt, other.0, other.1);
-        expect_eq(&rt, &first.contains(&second), &want, &(first, second));
+        expect_eq(&rt, first.contains(&second), want, (first, second));
     }
 }
 
@@ -90,14 +90,14 @@ fn test_range_ord(rt: HostRuntime) {
         let second = range(&rt, other.0, other.1);
         let answers = (first < second, first == second, first.cmp(&second));
         let wanted = (want == Ordering::Less, want == Ordering::Equal, want);
-        expect_eq(&rt, &answers, &wanted, &(first, second));
+        expect_eq(&rt, answers, wanted, (first, second));
     }
 }
 
 #[test]
 fn test_getters(rt: HostRuntime) {
     let range = range(&rt, 3, 5);
-    expect_eq(&rt, &(range.start(), range.end()), &(3, 5), &range);
+    expect_eq(&rt, (range.start(), range.end()), (3, 5), range);
 }
 
 /// A request, its fields, and the error if it is not valid.
@@ -194,7 +194,7 @@ fn texts_of_errors(rt: HostRuntime) {
         (Error::OutOfMemory, "There is not enough memory."),
     ];
     for (error, want) in &rows {
-        expect_eq(&rt, &text_of(&rt, error).as_str(), want, error);
+        expect_eq(&rt, text_of(&rt, error).as_str(), want, error);
     }
 }
 
@@ -229,7 +229,7 @@ fn texts_of_value_errors(rt: HostRuntime) {
         (ValueError::OutOfMemory, "There is not enough memory."),
     ];
     for (error, want) in &rows {
-        expect_eq(&rt, &text_of(&rt, error).as_str(), want, error);
+        expect_eq(&rt, text_of(&rt, error).as_str(), want, error);
     }
     let (not_a_state, out_of_memory) = (ValueError::NotAState, ValueError::OutOfMemory);
     assert!(rt; not_a_state == ValueError::NotAState && not_a_state != out_of_memory);
@@ -268,7 +268,7 @@ fn errors_increase(rt: HostRuntime) {
     for (i, first) in ascending.iter().enumerate() {
         for (j, second) in ascending.iter().enumerate() {
             let answers = (first.cmp(second), first == second);
-            expect_eq(&rt, &answers, &(i.cmp(&j), i == j), &(i, j));
+            expect_eq(&rt, answers, (i.cmp(&j), i == j), (i, j));
         }
     }
 }

@@ -37,7 +37,7 @@ fn expect_no_state(
     answer: std::result::Result<AddressAllocator, ValueError>,
     of: &impl Debug,
 ) {
-    expect_eq(rt, &answer.err(), &Some(ValueError::NotAState), of);
+    expect_eq(rt, answer.err(), Some(ValueError::NotAState), of);
 }
 
 /// Checks that the value of the text does not encode an allocator.

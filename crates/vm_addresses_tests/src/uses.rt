@@ -26,6 +26,7 @@ use crate::fixtures::{ENOUGH, expect_eq, expect_true, made, range};
 use serde_json::Value;
 use std::alloc::Global;
 use std::cmp::Ordering;
+use std::process::Abort;
 use vm_allocator::allocation_engine::{NodeState, align_up};
 use vm_allocator::{
     AddressAllocator, AllBlocks, AllocPolicy, Condition, Conflict, Constraint, ListError,
@@ -186,63 +187,59 @@ fn of_keys(
 
 #[test]
 fn uses_of_ranges(rt: HostRuntime) {
-    expect_eq(&rt, &multiple(9, 8), &Ok(16), &"the lowest multiple");
-    expect_eq(&rt, &between(1, 2), &Ok(range(&rt, 1, 2)), &"two addresses");
+    expect_eq(&rt, multiple(9, 8), Ok(16), "the lowest multiple");
+    expect_eq(&rt, between(1, 2), Ok(range(&rt, 1, 2)), "two addresses");
     let saved = range(&rt, 1, 2).to_value(rt.alloc()).expect(&rt, ENOUGH);
     expect_eq(
         &rt,
-        &read(rt.alloc(), &saved),
-        &Ok(range(&rt, 1, 2)),
-        &"the same",
+        read(rt.alloc(), &saved),
+        Ok(range(&rt, 1, 2)),
+        "the same",
     );
     let high = request_at(8, 8, 8).expect(&rt, "it is a request");
-    expect_eq(&rt, &limited(high, 0, u64::MAX), &Ok(high), &"no limit");
+    expect_eq(&rt, limited(high, 0, u64::MAX), Ok(high), "no limit");
+}
+
+/// Creates the request for the upper half of [0, 15].
+fn upper_half(rt: &impl Abort) -> Constraint {
+    request_at(8, 8, 8).expect(rt, "it is a request")
 }
 
 #[test]
-fn uses(rt: HostRuntime) {
+fn uses_of_requests(rt: HostRuntime) {
     let mut space = made(&rt, 0, 16);
-    let high = request_at(8, 8, 8).expect(&rt, "it is a request");
-    expect_eq(&rt, &blocker(&space, high), &None, &"the upper half");
-    expect_eq(
-        &rt,
-        &entered(rt.alloc(), &mut space, 8),
-        &1,
-        &"the upper half is allocated",
-    );
+    let high = upper_half(&rt);
+    expect_eq(&rt, blocker(&space, high), None, "the upper half");
+    expect_eq(&rt, entered(rt.alloc(), &mut space, 8), 1, "the same");
     let held = Conflict::Allocated(range(&rt, 8, 15));
-    expect_eq(&rt, &blocker(&space, high), &Some(held), &"it is not free");
-    expect_true(
-        &rt,
-        !allocate_each(rt.alloc(), &mut space, &[high]),
-        &"nor in a list",
-    );
-    let low = Constraint::new(8, 1, AllocPolicy::FirstMatch).expect(&rt, "it is a request");
-    let filled = fill(rt.alloc(), &mut space, low);
-    expect_eq(&rt, &filled, &Ok(range(&rt, 0, 7)), &"the lower half");
+    expect_eq(&rt, blocker(&space, high), Some(held), "it is not free");
+    let all = allocate_each(rt.alloc(), &mut space, &[high]);
+    expect_true(&rt, !all, "nor in a list");
+}
+
+#[test]
+fn uses_of_changes(rt: HostRuntime) {
+    let mut space = made(&rt, 0, 16);
+    let high = fill(rt.alloc(), &mut space, upper_half(&rt)).expect(&rt, ENOUGH);
+    let all = moved(rt.alloc(), &mut space, &high, upper_half(&rt));
+    expect_eq(&rt, all, Ok(high), "where it is");
+}
+
+#[test]
+fn uses_of_lists(rt: HostRuntime) {
     let free = [range(&rt, 0, 3), range(&rt, 12, 15)];
-    let other = of_free(rt.alloc(), &free).expect(&rt, ENOUGH);
-    expect_eq(
-        &rt,
-        &(listed(&space), listed(&other)),
-        &(2, 1),
-        &"allocated ranges",
-    );
+    let space = of_free(rt.alloc(), &free).expect(&rt, ENOUGH);
+    expect_eq(&rt, listed(&space), 1, "between them");
     let last = (range(&rt, 12, 15), NodeState::Free);
-    expect_eq(&rt, &parts(&other).next_back(), &Some(last), &"a gap");
-    expect_true(
-        &rt,
-        comes_first(&other, &space),
-        &"the one with a shorter first gap or range",
-    );
-    let moved = moved(rt.alloc(), &mut space, &range(&rt, 8, 15), high);
-    expect_eq(&rt, &moved, &Ok(range(&rt, 8, 15)), &"where it is");
+    expect_eq(&rt, parts(&space).next_back(), Some(last), "a gap");
+    let other = made(&rt, 0, 16);
+    expect_true(&rt, comes_first(&space, &other), "a shorter first gap");
 }
 
 #[test]
 fn uses_of_nodes(rt: HostRuntime) {
     let mut nodes = ReadNodes::new(rt.alloc());
-    expect_true(&rt, begin(&mut nodes), &"the root");
+    expect_true(&rt, begin(&mut nodes), "the root");
     let ended = end(
         &mut nodes,
         Side::Left,
@@ -250,13 +247,13 @@ fn uses_of_nodes(rt: HostRuntime) {
         NodeState::Allocated,
         1,
     );
-    expect_eq(&rt, &ended, &Ok(()), &"the root");
+    expect_eq(&rt, ended, Ok(()), "the root");
     let full = of_nodes(rt.alloc(), range(&rt, 0, 15), &nodes).expect(&rt, ENOUGH);
-    expect_eq(&rt, &listed(&full), &1, &"the whole space");
+    expect_eq(&rt, listed(&full), 1, "the whole space");
     let same = of_keys(rt.alloc(), range(&rt, 0, 15), &nodes).expect(&rt, ENOUGH);
-    expect_true(&rt, same == full, &"the same space");
+    expect_true(&rt, same == full, "the same space");
     let mut nodes = ReadNodes::new(rt.alloc());
     for depth in 0..52 {
-        expect_eq(&rt, &begin(&mut nodes), &(depth < 50), &depth);
+        expect_eq(&rt, begin(&mut nodes), depth < 50, depth);
     }
 }

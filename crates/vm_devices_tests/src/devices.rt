@@ -129,7 +129,7 @@ fn look_up(devices: &DeviceManager, id: u32) -> Option<(u32, u64, u64)> {
 /// Makes the calls in turn, and checks their results.
 fn replay(rt: &(impl Abort + AllocGlobal), devices: &mut DeviceManager, rows: &[(Call, Expected)]) {
     for (call, want) in rows {
-        expect_eq(rt, &call.ask(devices, rt.alloc()), &want.answer(), call);
+        expect_eq(rt, call.ask(devices, rt.alloc()), want.answer(), call);
     }
 }
 

@@ -56,6 +56,6 @@ fn uses(rt: HostRuntime) {
 fn replugs(rt: HostRuntime) {
     let (first, again) = replugged(rt.alloc()).expect(&rt, "there is room");
     let window = range(&rt, 0xD000_0000, 0xD000_0FFF);
-    expect_true(&rt, first.id == 0 && first.range == window, &first);
-    expect_true(&rt, again == first, &again);
+    expect_true(&rt, first.id == 0 && first.range == window, first);
+    expect_true(&rt, again == first, again);
 }

@@ -6,7 +6,8 @@ use crate::fixtures::{expect_eq, expect_true, fail_from_here, parsed, saved_ids}
 use Call::{Allocate, Count, Fields, Free, Holds, Peek, TakeAll};
 use Expected::{AlreadyReleased, Id, NeverAllocated, NotAvailable, OutOfRange, Overflow};
 use std::process::Abort;
-use vm_allocator::{Error, IdAllocator, Result};
+use vm_ids::IdAllocator;
+use vm_ranges::{Error, Result};
 
 mod requests;
 mod saved;
@@ -14,14 +15,14 @@ mod saved;
 /// Allocates ids, and checks that they are those from `first` to `last`.
 fn take_all(rt: &impl Abort, ids: &mut IdAllocator, first: u32, last: u32) {
     for id in first..=last {
-        expect_eq(rt, &ids.peek_id(), &Ok(id), &id);
-        expect_eq(rt, &ids.allocate_id(), &Ok(id), &id);
+        expect_eq(rt, ids.peek_id(), Ok(id), id);
+        expect_eq(rt, ids.allocate_id(), Ok(id), id);
     }
 }
 
 /// Checks that the range, the next id and the freed ids are those of the text.
 fn expect_fields(rt: &(impl Abort + AllocGlobal), ids: &IdAllocator, text: &str) {
-    expect_true(rt, saved_ids(rt, ids) == parsed(rt, text), &text);
+    expect_true(rt, saved_ids(rt, ids) == parsed(rt, text), text);
 }
 
 /// Creates the allocator of the ids from `first` to `last`.
@@ -71,11 +72,11 @@ impl Expected {
 fn replay(rt: &(impl Abort + AllocGlobal), ids: &mut IdAllocator, calls: &[Call]) {
     for call in calls {
         match *call {
-            Allocate(want) => expect_eq(rt, &ids.allocate_id(), &want.answer(), &"taken"),
-            Peek(want) => expect_eq(rt, &ids.peek_id(), &want.answer(), &"next"),
-            Free(id, want) => expect_eq(rt, &ids.free_id(id), &want.answer(), &id),
-            Holds(id, want) => expect_eq(rt, &ids.is_allocated(id), &want, &id),
-            Count(want) => expect_eq(rt, &ids.held_count(), &want, &"count"),
+            Allocate(want) => expect_eq(rt, ids.allocate_id(), want.answer(), "taken"),
+            Peek(want) => expect_eq(rt, ids.peek_id(), want.answer(), "next"),
+            Free(id, want) => expect_eq(rt, ids.free_id(id), want.answer(), id),
+            Holds(id, want) => expect_eq(rt, ids.is_allocated(id), want, id),
+            Count(want) => expect_eq(rt, ids.held_count(), want, "count"),
             TakeAll(first, last) => take_all(rt, ids, first, last),
             Fields(text) => expect_fields(rt, ids, text),
         }
@@ -91,7 +92,7 @@ fn replay_in(rt: &(impl Abort + AllocGlobal), first: u32, last: u32, calls: &[Ca
 fn expect_no_range(rt: &(impl Abort + AllocGlobal), first: u32, last: u32) {
     let refused = IdAllocator::new(rt.alloc(), first, last).err();
     let want = Some(Error::InvalidRange(u64::from(first), u64::from(last)));
-    expect_true(rt, refused == want, &(first, last));
+    expect_true(rt, refused == want, (first, last));
 }
 
 #[test]
@@ -219,7 +220,7 @@ fn allocate_highest(rt: &(impl Abort + AllocGlobal)) {
         Err(Error::OutOfMemory) => true,
         Err(_) => false,
     };
-    expect_true(rt, is_true, &answer);
+    expect_true(rt, is_true, answer);
 }
 
 #[test]

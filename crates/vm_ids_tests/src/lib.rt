@@ -1,4 +1,4 @@
-//! Tests of ids through the public calls of `vm_allocator`.
+//! Tests of ids through public calls.
 //!
 //! They guard against what no clause excludes, as those of `vm_tests`.
 #![tactic(auto)]

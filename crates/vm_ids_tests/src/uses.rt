@@ -2,13 +2,14 @@
 //! what it needs.
 ghost use Rattle.std.specs.Prelude.{◌≡◌, ◌↔◌, drop, IsTrue, IfOk, MatchResult, Ok, Err};
 ghost use Rattle.std.specs.Ordering.{eq_by_cmp};
-ghost use Rattle.vm_allocator.specs.IdOrder.{id_state_cmp};
-ghost use Rattle.vm_allocator.specs.Ids.{IsHeld, IsLowestNotHeld, held_ids};
-ghost use Rattle.vm_allocator.specs.IdRequests.{AllocatesExactId, AllocatesIdIn, AllocatesIds, MakesWithHeldIds};
+ghost use Rattle.vm_ids.specs.IdOrder.{id_state_cmp};
+ghost use Rattle.vm_ids.specs.Ids.{IsHeld, IsLowestNotHeld, held_ids};
+ghost use Rattle.vm_ids.specs.IdRequests.{AllocatesExactId, AllocatesIdIn, AllocatesIds, MakesWithHeldIds};
 
 use crate::fixtures::{ENOUGH, expect_eq, expect_true};
 use std::alloc::Global;
-use vm_allocator::{HeldIds, IdAllocator, Result};
+use vm_ids::{HeldIds, IdAllocator};
+use vm_ranges::Result;
 
 /// Creates an allocator of which some ids are allocated.
 fn with_allocated(alloc: Global, first: u32, last: u32, held: &[u32]) -> Result<IdAllocator>
@@ -73,23 +74,23 @@ fn are_same(one: &IdAllocator, other: &IdAllocator) -> bool
 #[test]
 fn uses(rt: HostRuntime) {
     let mut ids = with_allocated(rt.alloc(), 0, 9, &[2, 4]).expect(&rt, ENOUGH);
-    expect_eq(&rt, &lowest(&mut ids), &Ok(0), &"the lowest");
+    expect_eq(&rt, lowest(&mut ids), Ok(0), "the lowest");
     let all = several(rt.alloc(), &mut ids, 7).expect(&rt, ENOUGH);
     expect_eq(
         &rt,
-        &all.as_slice(),
-        &[1, 3, 5, 6, 7, 8, 9].as_slice(),
-        &"the others",
+        all.as_slice(),
+        [1, 3, 5, 6, 7, 8, 9].as_slice(),
+        "the others",
     );
-    expect_true(&rt, is_taken(&ids, 9) && !is_taken(&ids, 10), &"the last");
-    expect_eq(&rt, &after(&ids, 8).next(), &Some(8), &"the ninth");
-    expect_true(&rt, are_same(&ids, &ids), &"itself");
+    expect_true(&rt, is_taken(&ids, 9) && !is_taken(&ids, 10), "the last");
+    expect_eq(&rt, after(&ids, 8).next(), Some(8), "the ninth");
+    expect_true(&rt, are_same(&ids, &ids), "itself");
     let mut ids = with_allocated(rt.alloc(), 0, 9, &[]).expect(&rt, ENOUGH);
-    expect_eq(&rt, &chosen(&mut ids, 2), &Ok(2), &"the third");
+    expect_eq(&rt, chosen(&mut ids, 2), Ok(2), "the third");
     expect_eq(
         &rt,
-        &lowest_in(&mut ids, 1, 9),
-        &Ok(1),
-        &"the lowest from 1 on",
+        lowest_in(&mut ids, 1, 9),
+        Ok(1),
+        "the lowest from 1 on",
     );
 }

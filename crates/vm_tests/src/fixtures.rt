@@ -11,12 +11,17 @@ use vm_devices::DeviceManager;
 pub(crate) const ENOUGH: &str = "there is enough memory";
 
 /// Ends the test if a result is not the expected one. The message contains `of`.
-pub(crate) fn expect_eq<T: PartialEq + Debug>(rt: &impl Abort, got: &T, want: &T, of: &impl Debug) {
+pub(crate) fn expect_eq<T: PartialEq + Debug + Drop>(
+    rt: &impl Abort,
+    got: T,
+    want: T,
+    of: impl Debug + Drop,
+) {
     assert!(rt; got == want, "{of:?}: {got:?} where {want:?} is due");
 }
 
 /// Ends the test if `is_true` is false. The message contains `of`.
-pub(crate) fn expect_true(rt: &impl Abort, is_true: bool, of: &impl Debug) {
+pub(crate) fn expect_true(rt: &impl Abort, is_true: bool, of: impl Debug + Drop) {
     assert!(rt; is_true, "{of:?} is not so");
 }
 

@@ -121,7 +121,7 @@ fn devices_through_text(
 fn use_windows(rt: &(impl Abort + AllocGlobal)) {
     let (first, second) = windows(rt.alloc()).expect(rt, "there is room");
     let are_there = first.start() == 0xD000_0000 && second.start() == 0xD000_1000;
-    expect_true(rt, are_there, &"both windows");
+    expect_true(rt, are_there, "both windows");
 }
 
 /// Clones an iterator: the clone returns the ranges or gaps that the iterator has left.
@@ -134,22 +134,22 @@ fn ranges_again<'a>(ranges: &Ranges<'a>) -> std::result::Result<Ranges<'a>, Allo
 /// Writes and reads a gap.
 fn use_restored(rt: &(impl Abort + AllocGlobal), gap: &AddressAllocator) {
     let empty = restored(rt.alloc(), gap).expect(rt, ENOUGH);
-    expect_true(rt, empty == *gap, &"the same gap");
+    expect_true(rt, empty == *gap, "the same gap");
 }
 
 /// Passes allocators and a manager through their texts.
 fn use_texts(rt: &(impl Abort + AllocGlobal), gap: &AddressAllocator) {
     if let Ok(again) = space_through_text(rt.alloc(), gap) {
-        expect_true(rt, again == *gap, &"the same gap");
+        expect_true(rt, again == *gap, "the same gap");
     }
     if let Ok(ids) = IdAllocator::new(rt.alloc(), 5, 23) {
         if let Ok(again) = ids_through_text(rt.alloc(), &ids) {
-            expect_true(rt, again == ids, &"the same ids");
+            expect_true(rt, again == ids, "the same ids");
         }
     }
     if let Ok(devices) = DeviceManager::new(rt.alloc(), 5, 23, 0xE000_0000, 0x1000) {
         if let Ok(again) = devices_through_text(rt.alloc(), &devices) {
-            expect_true(rt, again == devices, &"the same devices");
+            expect_true(rt, again == devices, "the same devices");
         }
     }
 }
@@ -160,11 +160,11 @@ fn use_clones(rt: &(impl Abort + AllocGlobal), gap: &AddressAllocator) {
         expect_true(
             rt,
             again.next() == gap.held_ranges().next(),
-            &"the same range",
+            "the same range",
         );
     }
     if let Ok(mut again) = ranges_again(&gap.gaps()) {
-        expect_true(rt, again.next() == gap.gaps().next(), &"the same gap");
+        expect_true(rt, again.next() == gap.gaps().next(), "the same gap");
     }
 }
 
@@ -172,7 +172,7 @@ fn use_clones(rt: &(impl Abort + AllocGlobal), gap: &AddressAllocator) {
 fn use_bar(rt: &(impl Abort + AllocGlobal), gap: &mut AddressAllocator) {
     let bar = place_bar(rt.alloc(), gap, 0x10_0000);
     let want = Ok(range(rt, 0xE010_0000, 0xE01F_FFFF));
-    expect_true(rt, bar == want, &bar);
+    expect_true(rt, bar == want, bar);
 }
 
 /// Unplugs a slot of a memory, and plugs it in.
@@ -183,14 +183,14 @@ fn use_memory(rt: &(impl Abort + AllocGlobal)) {
         .allocate(rt.alloc(), 0x4000_0000, 0x1000, AllocPolicy::LastMatch)
         .expect(rt, "there is room");
     let again = replug(rt.alloc(), &mut memory, &slot);
-    expect_true(rt, again == Ok(slot), &again);
+    expect_true(rt, again == Ok(slot), again);
 }
 
 /// Allocates the first two numbers for devices.
 fn use_numbers(rt: &(impl Abort + AllocGlobal)) {
     let mut numbers = IdAllocator::new(rt.alloc(), 5, 23).expect(rt, "it is a range");
-    expect_true(rt, take_interrupt(&mut numbers) == Ok(5), &"5");
-    expect_true(rt, take_interrupt(&mut numbers) == Ok(6), &"6");
+    expect_true(rt, take_interrupt(&mut numbers) == Ok(5), "5");
+    expect_true(rt, take_interrupt(&mut numbers) == Ok(6), "6");
 }
 
 #[test]

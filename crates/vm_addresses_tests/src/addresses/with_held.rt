@@ -29,7 +29,7 @@ fn refused_without_memory(rt: HostRuntime) {
         let held = [range(&rt, start, end), range(&rt, next, last)];
         let answer = AddressAllocator::with_held(rt.alloc(), base, size, &held);
         let error = want.answer().expect_err(&rt, "each row is refused");
-        expect_eq(&rt, &answer.err(), &Some(ListError { index, error }), &held);
+        expect_eq(&rt, answer.err(), Some(ListError { index, error }), held);
     }
     // Only this call allocates. Its result shows whether the run is without memory.
     let held = [range(&rt, 16, 17), range(&rt, 20, 31)];
@@ -37,5 +37,5 @@ fn refused_without_memory(rt: HostRuntime) {
         Ok(space) => space.held_count() == 2,
         Err(failure) => failure == ListError::from(Error::OutOfMemory),
     };
-    expect_true(&rt, is_true, &"two are held");
+    expect_true(&rt, is_true, "two are held");
 }

@@ -23,21 +23,21 @@ fn clone_once(rt: &(impl Abort + AllocGlobal), space: &AddressAllocator) {
         Ok(clone) => clone == *space,
         Err(error) => error == Error::OutOfMemory,
     };
-    expect_true(rt, is_true, &"a clone, or no memory for it");
+    expect_true(rt, is_true, "a clone, or no memory for it");
 }
 
 /// Makes the calls that only read: two allocators are equal, and have these three ranges allocated.
 fn look_up(rt: &impl Abort, space: &AddressAllocator, other: &AddressAllocator) {
     let are_equal = space == other && space.cmp(other) == Ordering::Equal;
-    expect_true(rt, are_equal, &"both are equal");
+    expect_true(rt, are_equal, "both are equal");
     let are_held = holds_exactly(space, &[(2, 3), (6, 7), (10, 11)]);
-    expect_true(rt, are_held, &"these three are held");
+    expect_true(rt, are_held, "these three are held");
     let is_whole = space.holds(&range(rt, 6, 7)) && !space.holds(&range(rt, 6, 6));
-    expect_true(rt, is_whole && space.held_count() == 3, &"three whole ones");
+    expect_true(rt, is_whole && space.held_count() == 3, "three whole ones");
     let is_found = space.held_at(7) == Some(range(rt, 6, 7)) && space.held_at(8).is_none();
-    expect_true(rt, is_found, &"the address of a range and of a gap");
+    expect_true(rt, is_found, "the address of a range and of a gap");
     let is_found = space.gap_at(8) == Some(range(rt, 8, 9)) && space.gap_at(7).is_none();
-    expect_true(rt, is_found, &"the address of a gap and of a range");
+    expect_true(rt, is_found, "the address of a gap and of a range");
     let within = range(rt, 7, 10);
     let both = (
         space.held_ranges_in(&within).next_back(),
@@ -46,17 +46,17 @@ fn look_up(rt: &impl Abort, space: &AddressAllocator, other: &AddressAllocator) 
     let want = (Some(range(rt, 10, 11)), Some(range(rt, 8, 9)));
     expect_eq(
         rt,
-        &both,
-        &want,
-        &"the ranges and the gap between two addresses",
+        both,
+        want,
+        "the ranges and the gap between two addresses",
     );
     let request = Exact(8, 1, 4).request().expect(rt, "it is a request");
     let conflict = Some(Conflict::Allocated(range(rt, 6, 7)));
-    expect_eq(rt, &space.conflict(request), &conflict, &request);
+    expect_eq(rt, space.conflict(request), conflict, request);
     let are_clear = gaps_exactly(space, &[(0, 1), (4, 5), (8, 9), (12, 15)]);
-    expect_true(rt, are_clear, &"the other four are gaps");
+    expect_true(rt, are_clear, "the other four are gaps");
     let numbers = (space.longest_gap(), space.free_len(), space.gap_count());
-    expect_eq(rt, &numbers, &(4, 10, 4), &"the longest gap and all gaps");
+    expect_eq(rt, numbers, (4, 10, 4), "the longest gap and all gaps");
 }
 
 /// Fills the space of three allocated ranges, and frees all.
@@ -90,7 +90,7 @@ fn fill(rt: &(impl Abort + AllocGlobal), space: &mut AddressAllocator) {
     ];
     replay(rt, space, rows);
     let is_whole = space.base() == 0 && space.end() == 15 && space.height() == 1;
-    expect_true(rt, is_whole, &"one clear block");
+    expect_true(rt, is_whole, "one clear block");
 }
 
 #[test]
@@ -153,5 +153,5 @@ fn split_or_unchanged(rt: HostRuntime) {
         Ok(ends) => *ends == (31, 34) && space.height() == 2,
         Err(error) => *error == Error::OutOfMemory && space == before,
     };
-    expect_true(&rt, is_true, &answer);
+    expect_true(&rt, is_true, answer);
 }

@@ -50,7 +50,7 @@ fn ranges_and_states(rt: HostRuntime) {
     let value = range.to_value(rt.alloc()).expect(&rt, ENOUGH);
     assert!(rt; value == parsed(&rt, r#"{"start":16,"end":19}"#));
     let again = RangeInclusive::from_value(rt.alloc(), &value);
-    expect_eq(&rt, &again, &Ok(range), &"range");
+    expect_eq(&rt, again, Ok(range), "range");
     for (state, text) in [
         (NodeState::Free, r#""Free""#),
         (NodeState::Allocated, r#""Allocated""#),
@@ -58,6 +58,6 @@ fn ranges_and_states(rt: HostRuntime) {
         let value = state.to_value(rt.alloc()).expect(&rt, ENOUGH);
         assert!(rt; value == parsed(&rt, text));
         let again = NodeState::from_value(rt.alloc(), &value);
-        expect_eq(&rt, &again, &Ok(state), &text);
+        expect_eq(&rt, again, Ok(state), text);
     }
 }

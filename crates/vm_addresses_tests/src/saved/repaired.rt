@@ -101,5 +101,5 @@ fn repaired_to_blocks(rt: HostRuntime) {
     let space = AddressAllocator::from_value_repaired(rt.alloc(), &value);
     let space = space.expect(&rt, ONE_BETWEEN_GAPS);
     let counts = (block_count(&rt, &space), space.height());
-    expect_eq(&rt, &counts, &(3, 1), &"blocks and height");
+    expect_eq(&rt, counts, (3, 1), "blocks and height");
 }

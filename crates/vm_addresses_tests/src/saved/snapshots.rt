@@ -232,9 +232,9 @@ fn expect_held(
     first: &[(u64, u64)],
     text: &str,
 ) {
-    expect_eq(rt, &space.held_count(), &count, &text);
+    expect_eq(rt, space.held_count(), count, text);
     for (held, want) in space.held_ranges().zip(first) {
-        expect_eq(rt, &(held.start(), held.end()), want, &text);
+        expect_eq(rt, &(held.start(), held.end()), want, text);
     }
 }
 

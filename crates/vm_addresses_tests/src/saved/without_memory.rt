@@ -36,20 +36,19 @@ const ONE_NODE: &str = r#"{"address_space":{"start":16,"end":19},"interval_tree"
 fn ranges_and_states_checked(rt: HostRuntime) {
     let (no_ranges, no_states) = (parsed(&rt, NO_RANGES), parsed(&rt, NO_STATES));
     let (state, ends) = (parsed(&rt, r#""Allocated""#), parsed(&rt, ENDS));
-    let (none, held) = (Some(ValueError::NotAState), NodeState::Allocated);
     fail_from_here(rt.alloc());
     for value in items(&rt, &no_ranges) {
         let refusal = RangeInclusive::from_value(rt.alloc(), value).err();
-        expect_eq(&rt, &refusal, &none, &NO_RANGES);
+        expect_eq(&rt, refusal, Some(ValueError::NotAState), NO_RANGES);
     }
     for value in items(&rt, &no_states) {
         let refusal = NodeState::from_value(rt.alloc(), value).err();
-        expect_eq(&rt, &refusal, &none, &NO_STATES);
+        expect_eq(&rt, refusal, Some(ValueError::NotAState), NO_STATES);
     }
     let answer = NodeState::from_value(rt.alloc(), &state);
-    expect_eq(&rt, &answer, &Ok(held), &"state");
+    expect_eq(&rt, answer, Ok(NodeState::Allocated), "state");
     let answer = RangeInclusive::from_value(rt.alloc(), &ends);
-    expect_eq(&rt, &answer, &Ok(range(&rt, 16, 19)), &ENDS);
+    expect_eq(&rt, answer, Ok(range(&rt, 16, 19)), ENDS);
     // The only allocation. Its result shows whether the run is without memory.
     let written = range(&rt, 16, 19).to_value(rt.alloc());
     assert!(rt; written.is_ok() || written.err() == Some(Error::OutOfMemory));

@@ -52,7 +52,7 @@ fn expect_manager(rt: &(impl Abort + AllocGlobal), text: &str, rows: &[(Call, Ex
     let value = parsed(rt, text);
     let mut devices = DeviceManager::from_value(rt.alloc(), &value).expect(rt, text);
     let saved = devices.to_value(rt.alloc()).expect(rt, ENOUGH);
-    expect_true(rt, saved == value, &text);
+    expect_true(rt, saved == value, text);
     replay(rt, &mut devices, rows);
 }
 

@@ -16,18 +16,18 @@ fn parts(device: DeviceSlot) -> (u32, u64, u64) {
 fn expect_one(rt: &impl Abort, devices: &DeviceManager) {
     let mut up = devices.devices();
     let listed = (up.next().map(parts), up.next().map(parts));
-    expect_eq(rt, &listed, &(Some(DEVICE), None), &"the device");
+    expect_eq(rt, listed, (Some(DEVICE), None), "the device");
     let last = devices.devices().next_back().map(parts);
-    expect_eq(rt, &last, &Some(DEVICE), &"the last device");
+    expect_eq(rt, last, Some(DEVICE), "the last device");
     let found = devices.device_at(0x17FF).map(parts);
-    expect_eq(rt, &found, &Some(DEVICE), &"its last address");
+    expect_eq(rt, found, Some(DEVICE), "its last address");
     let counts = (devices.device_at(0x1800).is_none(), devices.device_count());
-    expect_eq(rt, &counts, &(true, 1), &"no other device");
+    expect_eq(rt, counts, (true, 1), "no other device");
     let exact = Constraint::new(8, 1, AllocPolicy::ExactMatch(0x17FF));
     let request = exact.expect(rt, "it is a request");
     let conflict = Some(Conflict::Allocated(range(rt, 0x1000, 0x17FF)));
     let addresses = devices.addresses();
-    expect_eq(rt, &addresses.conflict(request), &conflict, &request);
+    expect_eq(rt, addresses.conflict(request), conflict, request);
 }
 
 /// Frees an id for the first time, which allocates. Its result shows whether the run is without
@@ -37,7 +37,7 @@ fn release_first(rt: &impl Abort, devices: &mut DeviceManager) {
         Ok(()) | Err(Error::OutOfMemory) => true,
         Err(_) => false,
     };
-    expect_true(rt, is_true, &"a release");
+    expect_true(rt, is_true, "a release");
 }
 
 #[test]
@@ -57,6 +57,6 @@ fn looked_up_or_refused(rt: HostRuntime) {
     replay(&rt, &mut devices, rows);
     expect_one(&rt, &devices);
     let refused = DeviceManager::new(rt.alloc(), 2, 1, 0, 0).err();
-    expect_eq(&rt, &refused, &Some(Error::InvalidRange(2, 1)), &"no ids");
+    expect_eq(&rt, refused, Some(Error::InvalidRange(2, 1)), "no ids");
     release_first(&rt, &mut devices);
 }

@@ -20,16 +20,16 @@ enum Request {
 fn request_all(rt: &(impl Abort + AllocGlobal), ids: &mut IdAllocator, requests: &[Request]) {
     for request in requests {
         match *request {
-            Exact(id, want) => expect_eq(rt, &ids.allocate_exact(id), &want.answer(), &id),
+            Exact(id, want) => expect_eq(rt, ids.allocate_exact(id), want.answer(), id),
             Window(first, last, want) => {
                 let answer = ids.allocate_in(first, last);
-                expect_eq(rt, &answer, &want.answer(), &(first, last));
+                expect_eq(rt, answer, want.answer(), (first, last));
             }
             Several(want) => {
                 let list = ids.allocate_ids(rt.alloc(), want.len()).expect(rt, ENOUGH);
-                expect_true(rt, list.as_slice() == want, &want);
+                expect_true(rt, list.as_slice() == want, want);
             }
-            Left(want) => expect_eq(rt, &ids.free_count(), &want, &"free"),
+            Left(want) => expect_eq(rt, ids.free_count(), want, "free"),
         }
     }
 }
@@ -56,7 +56,7 @@ fn requests_without_memory(rt: HostRuntime) {
         Err(Error::OutOfMemory) => ids.free_count() == 80,
         Err(_) => false,
     };
-    expect_true(&rt, is_true, &answer);
+    expect_true(&rt, is_true, answer);
 }
 
 #[test]
@@ -66,17 +66,16 @@ fn several_ids_without_memory(rt: HostRuntime) {
     replay(&rt, &mut ids, calls);
     fail_from_here(rt.alloc());
     let too_many = ids.allocate_ids(rt.alloc(), 6).err();
-    let want = Some(Error::ResourceNotAvailable);
-    expect_eq(&rt, &too_many, &want, &"too many");
+    expect_eq(&rt, too_many, Some(Error::ResourceNotAvailable), "too many");
     let requests = &[Several(&[]), Exact(7, Id(7)), Window(5, 7, Id(6))];
     request_all(&rt, &mut ids, requests);
     let wrong = IdAllocator::with_held(rt.alloc(), 5, 9, &[7, 7]).err();
-    expect_eq(&rt, &wrong, &want, &"a wrong id");
+    expect_eq(&rt, wrong, Some(Error::ResourceNotAvailable), "a wrong id");
     // A list allocates memory. Its result shows whether the run is without memory.
     let is_true = match ids.allocate_ids(rt.alloc(), 2) {
         Ok(list) => list.as_slice() == [9, 10].as_slice() && ids.free_count() == 1,
         Err(Error::OutOfMemory) => ids.free_count() == 3,
         Err(_) => false,
     };
-    expect_true(&rt, is_true, &"all or none");
+    expect_true(&rt, is_true, "all or none");
 }

@@ -4,7 +4,7 @@
 //! vm-allocator that is not read, and against a check of a value that allocates.
 use super::*;
 use crate::fixtures::{ENOUGH, items};
-use vm_allocator::ValueError;
+use vm_ranges::ValueError;
 
 #[test]
 fn read_ones(rt: HostRuntime) {
@@ -32,7 +32,7 @@ fn read_ones(rt: HostRuntime) {
             ids.is_allocated(held - 1) || ids.is_allocated(held.wrapping_add(1)),
             ids.peek_id().ok(),
         );
-        expect_eq(&rt, &answers, &(true, false, next), &text);
+        expect_eq(&rt, answers, (true, false, next), text);
         assert!(rt; saved_ids(&rt, &ids) == value);
     }
 }
@@ -66,14 +66,14 @@ fn refused_without_memory(rt: HostRuntime) {
     fail_from_here(rt.alloc());
     for value in items(&rt, &wrong) {
         let refusal = IdAllocator::from_value(rt.alloc(), value).err();
-        expect_eq(&rt, &refusal, &Some(ValueError::NotAState), &NO_IDS);
+        expect_eq(&rt, refusal, Some(ValueError::NotAState), NO_IDS);
     }
     // The only allocation. Its result shows whether the run is without memory.
     let is_true = match IdAllocator::from_value(rt.alloc(), &right) {
         Ok(ids) => ids.held_count() == 5,
         Err(error) => error == ValueError::OutOfMemory,
     };
-    expect_true(&rt, is_true, &"the ids, or no memory for them");
+    expect_true(&rt, is_true, "the ids, or no memory for them");
 }
 
 /// The ids 5 to 23, as the feature `serde` of vm-allocator 0.1.4 wrote them. Seven were allocated, then 6 and 9
@@ -86,7 +86,7 @@ fn ids_of_the_other_crate(rt: HostRuntime) {
     let ids = IdAllocator::from_value(rt.alloc(), &value).expect(&rt, ENOUGH);
     for id in 0..32 {
         let held = [5, 7, 8, 10, 11].contains(&id);
-        expect_eq(&rt, &ids.is_allocated(id), &held, &id);
+        expect_eq(&rt, ids.is_allocated(id), held, id);
     }
     assert!(rt; saved_ids(&rt, &ids) == value);
 }
