@@ -61,7 +61,7 @@ METHODS = set("""and_then as_array as_object as_slice as_str as_u64 capacity che
     write_all""".split())
 MACROS = {"json", "matches", "unreachable"}
 DERIVES = {"Clone", "Copy", "Debug", "Default", "Drop", "Eq", "Error", "Hash", "Ord", "PartialEq", "PartialOrd"}
-TRAITS = {"DoubleEndedIterator", "Eq", "ExactSizeIterator", "From", "Iterator", "Ord", "PartialEq", "PartialOrd"}
+TRAITS = {"DoubleEndedIterator", "Drop", "Eq", "ExactSizeIterator", "From", "Iterator", "Ord", "PartialEq", "PartialOrd"}
 # Names that no item of a crate may have, because the tables mean the items of the libraries.
 TAKEN = (PRELUDE | NAMES | NUMBERS | TRAITS | {path.split("::")[0] for path in ASSOCIATED}) - {"Result"}
 ATTRIBUTES = {"allow", "cold", "default", "error", "inline"}

@@ -72,25 +72,25 @@ fn are_same(one: &IdAllocator, other: &IdAllocator) -> bool
 }
 
 #[test]
-fn uses(rt: HostRuntime) {
-    let mut ids = with_allocated(rt.alloc(), 0, 9, &[2, 4]).expect(&rt, ENOUGH);
-    expect_eq(&rt, lowest(&mut ids), Ok(0), "the lowest");
-    let all = several(rt.alloc(), &mut ids, 7).expect(&rt, ENOUGH);
-    expect_eq(
-        &rt,
-        all.as_slice(),
-        [1, 3, 5, 6, 7, 8, 9].as_slice(),
-        "the others",
-    );
-    expect_true(&rt, is_taken(&ids, 9) && !is_taken(&ids, 10), "the last");
+fn uses_of_requests(rt: HostRuntime) {
+    let mut ids = with_allocated(rt.alloc(), 0, 9, &[0]).expect(&rt, ENOUGH);
+    expect_eq(&rt, lowest(&mut ids), Ok(1), "the lowest");
+    expect_eq(&rt, chosen(&mut ids, 3), Ok(3), "the fourth");
+    expect_eq(&rt, lowest_in(&mut ids, 3, 9), Ok(4), "from 3 on");
+}
+
+#[test]
+fn uses_of_lists(rt: HostRuntime) {
+    let mut ids = with_allocated(rt.alloc(), 0, 9, &[0, 2]).expect(&rt, ENOUGH);
+    let all = several(rt.alloc(), &mut ids, 8).expect(&rt, ENOUGH);
+    let others = [1, 3, 4, 5, 6, 7, 8, 9].as_slice();
+    expect_true(&rt, all.as_slice() == others, "the others");
     expect_eq(&rt, after(&ids, 8).next(), Some(8), "the ninth");
+}
+
+#[test]
+fn uses_of_queries(rt: HostRuntime) {
+    let ids = with_allocated(rt.alloc(), 0, 9, &[9]).expect(&rt, ENOUGH);
+    expect_true(&rt, is_taken(&ids, 9) && !is_taken(&ids, 10), "the last");
     expect_true(&rt, are_same(&ids, &ids), "itself");
-    let mut ids = with_allocated(rt.alloc(), 0, 9, &[]).expect(&rt, ENOUGH);
-    expect_eq(&rt, chosen(&mut ids, 2), Ok(2), "the third");
-    expect_eq(
-        &rt,
-        lowest_in(&mut ids, 1, 9),
-        Ok(1),
-        "the lowest from 1 on",
-    );
 }

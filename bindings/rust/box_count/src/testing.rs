@@ -24,6 +24,11 @@ pub trait AllocGlobal {
 
 impl AllocGlobal for HostRuntime {}
 
+/// A type whose values need not be moved on: every type of Rust.
+pub trait Drop {}
+
+impl<T> Drop for T {}
+
 /// A type with clones. In Rattle a clone can fail, as it can allocate.
 pub trait Clone: Sized {
     fn clone(value: &Self) -> Result<Self, AllocError>;
