@@ -61,7 +61,7 @@ METHODS = set("""and_then as_array as_object as_slice as_str as_u64 capacity che
     write_all""".split())
 MACROS = {"json", "matches", "unreachable"}
 DERIVES = {"Clone", "Copy", "Debug", "Default", "Drop", "Eq", "Error", "Hash", "Ord", "PartialEq", "PartialOrd"}
-TRAITS = {"DoubleEndedIterator", "Drop", "Eq", "ExactSizeIterator", "From", "Iterator", "Ord", "PartialEq", "PartialOrd"}
+TRAITS = {"DoubleEndedIterator", "Eq", "ExactSizeIterator", "From", "Iterator", "Ord", "PartialEq", "PartialOrd"}
 # Names that no item of a crate may have, because the tables mean the items of the libraries.
 TAKEN = (PRELUDE | NAMES | NUMBERS | TRAITS | {path.split("::")[0] for path in ASSOCIATED}) - {"Result"}
 ATTRIBUTES = {"allow", "cold", "default", "error", "inline"}
@@ -619,7 +619,8 @@ class File(Tokens):
             return name in ASSOCIATED or self.imported.get(head) in crate.stands_on
         if kind == "a function":
             return name in NAMES or name in crate.functions or self.imported.get(head) in crate.stands_on
-        return any(name in table for table in (NAMES, PRELUDE, NUMBERS, self.imported, TRAITS if self.of_tests else ()))
+        of_tests = TRAITS | {"Drop"} if self.of_tests else ()  # the module `testing` has a trait `Drop`
+        return any(name in table for table in (NAMES, PRELUDE, NUMBERS, self.imported, of_tests))
 
     # ---- Output ----
 

@@ -12,7 +12,7 @@ fn devices_compared(rt: HostRuntime) {
     ];
     for (i, first) in devices.iter().enumerate() {
         for (j, second) in devices.iter().enumerate() {
-            expect_eq(&rt, (first == second), (i == j), (i, j));
+            expect_eq(&rt, first == second, i == j, (i, j));
         }
     }
 }
