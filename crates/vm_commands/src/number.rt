@@ -33,10 +33,7 @@ pub(crate) fn leading_number(text: &[u8]) -> Option<(u64, usize)>
         if count == MAX_DIGITS {
             return None;
         }
-        let Some(more) = with_digit(value, text[count]) else {
-            return None;
-        };
-        value = more;
+        value = with_digit(value, text[count])?;
         count += 1;
     }
     if count == 0 {

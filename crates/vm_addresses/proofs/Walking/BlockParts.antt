@@ -1,7 +1,6 @@
 -- The blocks of a tree, with their ranges and states.
-use Rattle.std.proofs.Common.{◌≡◌, List, [], ◌∷◌, ◌++◌, length, map, sym, ap}
+use Rattle.std.proofs.Common.{◌≡◌, map, sym, ap}
 use Rattle.std.proofs.lemmas.List.{map-append, length-map}
-use Rattle.vm_leaf.specs.declared.block.Block.{Block}
 use Rattle.vm_tree.specs.Shape.{Shape, blocks}
 use Rattle.vm_addresses.specs.Allocator.{state_of, IsSpaceTree}
 use Rattle.vm_addresses.specs.Queries.{block_parts}
@@ -9,13 +8,7 @@ use Rattle.vm_addresses.specs.Tree.Blocks.{blocks_of}
 use Rattle.vm_addresses.proofs.Comparing.Tilings.{tree_blocks}
 use Rattle.vm_addresses.proofs.Walking.HeldInTrees.{all_blocks}
 
-pub parts_count : (bs : List Block) → length (map block_parts bs) ≡ length bs
-parts_count bs = length-map bs block_parts
-
-pub parts_last : (bs : List Block) (b : Block) → map block_parts (bs ++ b ∷ []) ≡ map block_parts bs ++ block_parts b ∷ []
-parts_last bs b = map-append block_parts bs (b ∷ [])
-
 pub parts_in_tree : (s : Shape) → IsSpaceTree s → map block_parts (blocks s) ≡ map block_parts (blocks_of (state_of s))
 parts_in_tree s h = ap (map block_parts) (sym (tree_blocks s h))
 
-pub ruleset parts = (parts_count, parts_last, parts_in_tree, all_blocks)
+pub ruleset parts = (length-map, map-append, parts_in_tree, all_blocks)

@@ -7,15 +7,15 @@ use Rattle.vm_commands.proofs.Numerals.{value_more, number_is, number_large}
 use Rattle.vm_commands.proofs.number.leading_number.Goals as goal
 use Rattle.vm_commands.proofs.number.leading_number.Goals.{then-loop-count-test+else-is_ascii_digit, else-loop-count-test}
 
-pub returns-in_default : goal.returns-in_default
-returns-in_default c =
+pub returns-in_err-value : goal.returns-in_err-value
+returns-in_err-value c =
     let l = c.loop-count in
     let text = c.args.text.now in
     let is : is_digit (get_or text l.count 0) ≡ true = grind (arith, nat_tests) in
     let ahead = prefix_len-drop_yes is_digit text l.count 0 (omega arith) is in
     let large : 2 ^ 64 ≤ value_from 0 (take (l.count + 1) text) =
-    omega (arith, l.invariant.value, value_more text l.count (omega arith), c.in_default.ensures) in
-    number_large text (l.count + 1) (omega (arith, l.invariant.ahead, ahead)) large
+    omega (arith, l.invariant.value, value_more text l.count (omega arith), c.in_err-value.ensures) in
+    rw c.from_residual.ensures (number_large text (l.count + 1) (omega (arith, l.invariant.ahead, ahead)) large)
 
 pub loop-count-preserved : goal.loop-count-preserved
 loop-count-preserved c =
@@ -27,7 +27,7 @@ loop-count-preserved c =
     record {
       few = omega (arith, i.few);
       ahead = omega (arith, i.ahead, ahead);
-      value = omega (arith, i.value, value_more text l.count (omega arith), c.in-Some.ensures);
+      value = omega (arith, i.value, value_more text l.count (omega arith), c.in_ok-value.ensures);
       fits = omega arith;
     }
 

@@ -24,10 +24,7 @@ pub(in crate::proved::vm_commands) fn leading_number(text: &[u8]) -> Option<(u64
         if count == MAX_DIGITS {
             return None;
         }
-        let Some(more) = with_digit(value, text[count]) else {
-            return None;
-        };
-        value = more;
+        value = with_digit(value, text[count])?;
         count += 1;
     }
     if count == 0 {
