@@ -35,36 +35,27 @@ invariant_of-node-in-Last t c =
       summed = record { left = c.node.invariant.summed.left; right = d.summed };
     }
 
-pub update-requires-clause-can : goal.update-requires-clause-can
-update-requires-clause-can t c =
-    let m = c.match-end in
+-- What a drop in a child leaves at the link.
+above : (t : _) (c : goal.After-update-arg-1 t) → DropsAbove c.args.end (stored_longest c.match-end.tree) (stored_alignments c.match-end.tree)
+    (stored_height c.match-end.tree) (side c.args.tree.now) (side c.match-end.tree) c.match-end.change
+above t c =
     let q = node_is c.node.inside c.in-Fork.is c.node.view_is c.deref_mut-node.ensures.value in
     let f = linked c.args.tree.now c.in-Fork.is c.requires.summed in
-    let u : DropsAbove c.args.end (stored_longest m.tree) (stored_alignments m.tree) (stored_height m.tree) (side c.args.tree.now)
-    (side m.tree) m.change = elim m.branch [
+    elim c.match-end.branch [
       | in-First w ↦ rw (w.tree-is, w.change-is)
           (drops_above c.args.end First w.in-First.is _ _ _ _ _ _ _ q c.requires.can f _ w.drop_end-change.ensures.dropped
           w.drop_end-change.ensures.reduces)
       | in-Last w ↦ rw (w.tree-is, w.change-is)
           (drops_above c.args.end Last w.in-Last.is _ _ _ _ _ _ _ q c.requires.can f _ w.drop_end-change-in-Last.ensures.dropped
           w.drop_end-change-in-Last.ensures.reduces)
-    ] in
-    can_update u.1
+    ]
+
+pub update-requires-clause-can : goal.update-requires-clause-can
+update-requires-clause-can t c = can_update (above t c).1
 
 pub returns-after-end : goal.returns-after-end
 returns-after-end t c =
-    let m = c.match-end in
-    let q = node_is c.node.inside c.in-Fork.is c.node.view_is c.deref_mut-node.ensures.value in
-    let f = linked c.args.tree.now c.in-Fork.is c.requires.summed in
-    let u : DropsAbove c.args.end (stored_longest m.tree) (stored_alignments m.tree) (stored_height m.tree) (side c.args.tree.now)
-    (side m.tree) m.change = elim m.branch [
-      | in-First w ↦ rw (w.tree-is, w.change-is)
-          (drops_above c.args.end First w.in-First.is _ _ _ _ _ _ _ q c.requires.can f _ w.drop_end-change.ensures.dropped
-          w.drop_end-change.ensures.reduces)
-      | in-Last w ↦ rw (w.tree-is, w.change-is)
-          (drops_above c.args.end Last w.in-Last.is _ _ _ _ _ _ _ q c.requires.can f _ w.drop_end-change-in-Last.ensures.dropped
-          w.drop_end-change-in-Last.ensures.reduces)
-    ] in
+    let u = above t c.before in
     let n = c.update.ensures in
     record {
       dropped = updated_blocks u.1 _ n.tree ∙ u.0;

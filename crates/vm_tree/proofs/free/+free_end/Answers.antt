@@ -7,7 +7,7 @@ use Rattle.vm_tree.specs.Changes.{CanChange}
 use Rattle.vm_tree.proofs.FreesTrees.{can_l, can_r, many_r, child_extends, last_kept, FreesAbove, frees_above}
 use Rattle.vm_tree.proofs.Updates.{node_is, linked, can_update, updated_blocks, update_reduces}
 use Rattle.vm_tree.proofs.free.+free_end.Goals as goal
-use Rattle.vm_tree.proofs.free.+free_end.Goals.{in-First, in-Last}
+use Rattle.vm_tree.proofs.free.+free_end.Goals.{After-branch-freed, in-First, in-Last}
 
 pub free_end-requires : goal.free_end-requires
 free_end-requires t c =
@@ -36,57 +36,34 @@ invariant_of-node-in-Last t c =
       summed = record { left = c.node.invariant.summed.left; right = d.ensures.summed };
     }
 
-pub returns-in_err-freed-in-Fork-clause-freed : goal.returns-in_err-freed-in-Fork-clause-freed
-returns-in_err-freed-in-Fork-clause-freed t c =
-    let m = c.match-end in
+-- What a free in a child leaves at the link, or that it frees nothing.
+above : (t : _) (c : After-branch-freed t) → FreesAbove c.args.end (between c.args.start c.args.last) (stored_longest c.match-end.tree)
+    (stored_alignments c.match-end.tree) (stored_height c.match-end.tree) (side c.args.tree.now) (side c.match-end.tree) c.match-end.branch'
+above t c =
     let k = between c.args.start c.args.last in
     let q = node_is c.node.inside c.in-Fork.is c.node.view_is c.deref_mut-node.ensures.value in
     let f = linked c.args.tree.now c.in-Fork.is c.requires.summed in
-    let u : FreesAbove c.args.end k (stored_longest m.tree) (stored_alignments m.tree) (stored_height m.tree) (side c.args.tree.now)
-    (side m.tree) m.branch' = elim m.branch [
+    elim c.match-end.branch [
       | in-First w ↦ rw (w.tree-is, w.branch'-is)
           (frees_above c.args.end First w.in-First.is _ _ _ _ _ _ (side w.free_end.new.tree) q c.requires.can f k c.requires.extends
           w.free_end.result w.free_end.ensures.freed)
       | in-Last w ↦ rw (w.tree-is, w.branch'-is)
           (frees_above c.args.end Last w.in-Last.is _ _ _ _ _ _ (side w.free_end-in-Last.new.tree) q c.requires.can f k c.requires.extends
           w.free_end-in-Last.result w.free_end-in-Last.ensures.freed)
-    ] in
-    let n = rw c.in_err-freed-in-Fork.was at u in
+    ]
+
+pub returns-in_err-freed-in-Fork-clause-freed : goal.returns-in_err-freed-in-Fork-clause-freed
+returns-in_err-freed-in-Fork-clause-freed t c =
+    let n = rw c.in_err-freed-in-Fork.was at (above t c.before.before) in
     rw c.from_residual-in_err-freed-in-Fork.ensures n
 
 pub update-change-requires-clause-can : goal.update-change-requires-clause-can
 update-change-requires-clause-can t c =
-    let m = c.match-end in
-    let k = between c.args.start c.args.last in
-    let q = node_is c.node.inside c.in-Fork.is c.node.view_is c.deref_mut-node.ensures.value in
-    let f = linked c.args.tree.now c.in-Fork.is c.requires.summed in
-    let u : FreesAbove c.args.end k (stored_longest m.tree) (stored_alignments m.tree) (stored_height m.tree) (side c.args.tree.now)
-    (side m.tree) m.branch' = elim m.branch [
-      | in-First w ↦ rw (w.tree-is, w.branch'-is)
-          (frees_above c.args.end First w.in-First.is _ _ _ _ _ _ (side w.free_end.new.tree) q c.requires.can f k c.requires.extends
-          w.free_end.result w.free_end.ensures.freed)
-      | in-Last w ↦ rw (w.tree-is, w.branch'-is)
-          (frees_above c.args.end Last w.in-Last.is _ _ _ _ _ _ (side w.free_end-in-Last.new.tree) q c.requires.can f k c.requires.extends
-          w.free_end-in-Last.result w.free_end-in-Last.ensures.freed)
-    ] in
-    let n = rw c.in_ok-freed-in-Fork.was at u in
+    let n = rw c.in_ok-freed-in-Fork.was at (above t c.before.before) in
     can_update n.1
 
 pub returns-in_ok-freed-in-Fork-clause-freed : goal.returns-in_ok-freed-in-Fork-clause-freed
 returns-in_ok-freed-in-Fork-clause-freed t c =
-    let m = c.match-end in
-    let k = between c.args.start c.args.last in
-    let q = node_is c.node.inside c.in-Fork.is c.node.view_is c.deref_mut-node.ensures.value in
-    let f = linked c.args.tree.now c.in-Fork.is c.requires.summed in
-    let u : FreesAbove c.args.end k (stored_longest m.tree) (stored_alignments m.tree) (stored_height m.tree) (side c.args.tree.now)
-    (side m.tree) m.branch' = elim m.branch [
-      | in-First w ↦ rw (w.tree-is, w.branch'-is)
-          (frees_above c.args.end First w.in-First.is _ _ _ _ _ _ (side w.free_end.new.tree) q c.requires.can f k c.requires.extends
-          w.free_end.result w.free_end.ensures.freed)
-      | in-Last w ↦ rw (w.tree-is, w.branch'-is)
-          (frees_above c.args.end Last w.in-Last.is _ _ _ _ _ _ (side w.free_end-in-Last.new.tree) q c.requires.can f k c.requires.extends
-          w.free_end-in-Last.result w.free_end-in-Last.ensures.freed)
-    ] in
-    let n = rw c.in_ok-freed-in-Fork.was at u in
+    let n = rw c.in_ok-freed-in-Fork.was at (above t c.before.before.before) in
     let o = c.update-change in
     (rw (updated_blocks n.1 _ o.ensures.tree) n.0, update_reduces n.1 _ o.ensures.tree o.result o.ensures.reported)
