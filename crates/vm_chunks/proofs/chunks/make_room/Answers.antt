@@ -3,6 +3,7 @@ use Rattle.std.proofs.lemmas.List.{get_or_read}
 use Rattle.vm_chunks.proofs.Homes.{all_bounds_descend, same_lengths, place_within}
 use Rattle.vm_chunks.proofs.Divisions.{split_is, split_same, split_upper, split_lower, place_lower, place_upper}
 use Rattle.vm_chunks.proofs.chunks.make_room.Goals as goal
+use Rattle.vm_chunks.proofs.chunks.make_room.Goals.{In_ok-bound}
 
 pub bounds_above-at-requires : goal.bounds_above-at-requires
 bounds_above-at-requires g c = rw c.as_slice.ensures.value (all_bounds_descend g.E.Entry.key_of _ _ c.requires.chunks.bounded)
@@ -13,25 +14,26 @@ split-requires-clause-bounded g c =
     let l : c.bounds_above-at.result < length c.args.chunks.now.items = search rules in
     omega arith
 
+-- The chunk is there, and is cut before one of its entries.
+within : (g : _) (c : In_ok-bound g) → c.bounds_above-at.result < length c.args.chunks.now.items
+within g c = search rules
+
+cut : (g : _) (c : In_ok-bound g) → c.kept_for-kept.result < length (get_or c.args.chunks.now.items c.bounds_above-at.result [])
+cut g c =
+    subst (λ x. c.kept_for-kept.result < length x)
+    (c.as_slice-2.ensures.value ∙ get_or_read c.args.chunks.now.items _ _ (within g c) c.index-2.ensures []) c.kept_for-kept.ensures.rest
+
 pub returns-then-key-bound-clause-same : goal.returns-then-key-bound-clause-same
 returns-then-key-bound-clause-same g c =
-    let l : c.bounds_above-at.result < length c.args.chunks.now.items = search rules in
-    let u : c.kept_for-kept.result < length (get_or c.args.chunks.now.items c.bounds_above-at.result []) =
-    subst (λ x. c.kept_for-kept.result < length x) (c.as_slice-2.ensures.value ∙ get_or_read c.args.chunks.now.items _ _ l c.index-2.ensures [])
-    c.kept_for-kept.ensures.rest in
     rw c.in_ok-bound.ensures.chunks
     (split_same g.E.Entry.key_of c.args.chunks.now.items c.args.bounds.now.items c.requires.chunks _
-    c.kept_for-kept.result c.in_ok-bound.bound l c.kept_for-kept.ensures.some u c.in_ok-bound.ensures.bound)
+    c.kept_for-kept.result c.in_ok-bound.bound (within g c.before) c.kept_for-kept.ensures.some (cut g c.before) c.in_ok-bound.ensures.bound)
 
 pub returns-then-key-bound-clause-chunks : goal.returns-then-key-bound-clause-chunks
 returns-then-key-bound-clause-chunks g c =
-    let l : c.bounds_above-at.result < length c.args.chunks.now.items = search rules in
-    let u : c.kept_for-kept.result < length (get_or c.args.chunks.now.items c.bounds_above-at.result []) =
-    subst (λ x. c.kept_for-kept.result < length x) (c.as_slice-2.ensures.value ∙ get_or_read c.args.chunks.now.items _ _ l c.index-2.ensures [])
-    c.kept_for-kept.ensures.rest in
     rw (c.in_ok-bound.ensures.chunks, c.in_ok-bound.ensures.bounds)
     (split_is g.E.Entry.key_of c.args.chunks.now.items c.args.bounds.now.items c.requires.chunks _
-    c.kept_for-kept.result c.in_ok-bound.bound l c.kept_for-kept.ensures.some u c.in_ok-bound.ensures.bound)
+    c.kept_for-kept.result c.in_ok-bound.bound (within g c.before) c.kept_for-kept.ensures.some (cut g c.before) c.in_ok-bound.ensures.bound)
 
 pub returns-then-key-bound-clause-place : goal.returns-then-key-bound-clause-place
 returns-then-key-bound-clause-place g c =
@@ -40,13 +42,9 @@ returns-then-key-bound-clause-place g c =
 
 pub returns-then-key-bound-clause-room : goal.returns-then-key-bound-clause-room
 returns-then-key-bound-clause-room g c =
-    let l : c.bounds_above-at.result < length c.args.chunks.now.items = search rules in
-    let i = get_or_read c.args.chunks.now.items _ _ l c.index.ensures [] in
-    let u : c.kept_for-kept.result < length (get_or c.args.chunks.now.items c.bounds_above-at.result []) =
-    subst (λ x. c.kept_for-kept.result < length x) (c.as_slice-2.ensures.value ∙ get_or_read c.args.chunks.now.items _ _ l c.index-2.ensures [])
-    c.kept_for-kept.ensures.rest in
+    let i = get_or_read c.args.chunks.now.items _ _ (within g c.before) c.index.ensures [] in
     let r = split_lower g.E.Entry.key_of c.args.chunks.now.items c.args.bounds.now.items c.requires.chunks _
-    c.kept_for-kept.result c.in_ok-bound.bound l c.kept_for-kept.ensures.some u c.in_ok-bound.ensures.bound in
+    c.kept_for-kept.result c.in_ok-bound.bound (within g c.before) c.kept_for-kept.ensures.some (cut g c.before) c.in_ok-bound.ensures.bound in
     let f = c.len-len.ensures.fits in
     let v = c.len-len.ensures.value in
     let o = c.kept_for-kept.ensures.some in
@@ -55,23 +53,15 @@ returns-then-key-bound-clause-room g c =
 
 pub returns-clause-same : goal.returns-clause-same
 returns-clause-same g c =
-    let l : c.bounds_above-at.result < length c.args.chunks.now.items = search rules in
-    let u : c.kept_for-kept.result < length (get_or c.args.chunks.now.items c.bounds_above-at.result []) =
-    subst (λ x. c.kept_for-kept.result < length x) (c.as_slice-2.ensures.value ∙ get_or_read c.args.chunks.now.items _ _ l c.index-2.ensures [])
-    c.kept_for-kept.ensures.rest in
     rw c.in_ok-bound.ensures.chunks
     (split_same g.E.Entry.key_of c.args.chunks.now.items c.args.bounds.now.items c.requires.chunks _
-    c.kept_for-kept.result c.in_ok-bound.bound l c.kept_for-kept.ensures.some u c.in_ok-bound.ensures.bound)
+    c.kept_for-kept.result c.in_ok-bound.bound (within g c.before.before) c.kept_for-kept.ensures.some (cut g c.before.before) c.in_ok-bound.ensures.bound)
 
 pub returns-clause-chunks : goal.returns-clause-chunks
 returns-clause-chunks g c =
-    let l : c.bounds_above-at.result < length c.args.chunks.now.items = search rules in
-    let u : c.kept_for-kept.result < length (get_or c.args.chunks.now.items c.bounds_above-at.result []) =
-    subst (λ x. c.kept_for-kept.result < length x) (c.as_slice-2.ensures.value ∙ get_or_read c.args.chunks.now.items _ _ l c.index-2.ensures [])
-    c.kept_for-kept.ensures.rest in
     rw (c.in_ok-bound.ensures.chunks, c.in_ok-bound.ensures.bounds)
     (split_is g.E.Entry.key_of c.args.chunks.now.items c.args.bounds.now.items c.requires.chunks _
-    c.kept_for-kept.result c.in_ok-bound.bound l c.kept_for-kept.ensures.some u c.in_ok-bound.ensures.bound)
+    c.kept_for-kept.result c.in_ok-bound.bound (within g c.before.before) c.kept_for-kept.ensures.some (cut g c.before.before) c.in_ok-bound.ensures.bound)
 
 pub returns-clause-place : goal.returns-clause-place
 returns-clause-place g c =
@@ -80,13 +70,10 @@ returns-clause-place g c =
 
 pub returns-clause-room : goal.returns-clause-room
 returns-clause-room g c =
-    let l : c.bounds_above-at.result < length c.args.chunks.now.items = search rules in
-    let i = get_or_read c.args.chunks.now.items _ _ l c.index.ensures [] in
-    let u : c.kept_for-kept.result < length (get_or c.args.chunks.now.items c.bounds_above-at.result []) =
-    subst (λ x. c.kept_for-kept.result < length x) (c.as_slice-2.ensures.value ∙ get_or_read c.args.chunks.now.items _ _ l c.index-2.ensures [])
-    c.kept_for-kept.ensures.rest in
+    let i = get_or_read c.args.chunks.now.items _ _ (within g c.before.before) c.index.ensures [] in
     let r = split_upper g.E.Entry.key_of c.args.chunks.now.items c.args.bounds.now.items c.requires.chunks _
-    c.kept_for-kept.result c.in_ok-bound.bound l c.kept_for-kept.ensures.some u c.in_ok-bound.ensures.bound in
+    c.kept_for-kept.result c.in_ok-bound.bound (within g c.before.before) c.kept_for-kept.ensures.some (cut g c.before.before) c.in_ok-bound.ensures.bound in
+    let u = cut g c.before.before in
     let f = c.len-len.ensures.fits in
     let v = c.len-len.ensures.value in
     let o = c.kept_for-kept.ensures.some in

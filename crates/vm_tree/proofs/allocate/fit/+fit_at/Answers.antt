@@ -23,6 +23,7 @@ use Rattle.vm_tree.proofs.Searched.{
   entered,
 }
 use Rattle.vm_tree.proofs.allocate.fit.+fit_at.Goals as goal
+use Rattle.vm_tree.proofs.allocate.fit.+fit_at.Goals.{fit_below-After-opposite}
 
 -- ---- The whole subtree
 pub fit_at-fit_below-answer-requires : goal.fit_at-fit_below-answer-requires
@@ -79,39 +80,38 @@ fit_below-fit_in_child-answer-requires t c =
     let n = nodes_within c.args.search.now c.requires.search c.args.end c.args.node.now (omega arith) c.requires.may_fit in
     (omega arith, (c.requires.search, (c.requires.tree, omega arith)))
 
+-- The child at the end has no place, and its node is as before.
+same : (t : _) (c : fit_below-After-opposite t) → c.fit_in_child-answer.new.node ≡ c.args.node.now
+same t c = rw c.if-has_no_place.ensures at c.fit_in_child-answer.ensures.change
+
+none : (t : _) (c : fit_below-After-opposite t) → HasNoPlace c.args.search.now (blocks (child_at c.args.end c.args.node.now))
+none t c = none_closest c.args.end c.args.search.now (blocks (child_at c.args.end c.args.node.now))
+    (blocks (child_at c.args.end c.fit_in_child-answer.new.node)) (rw c.if-has_no_place.ensures at c.fit_in_child-answer.ensures.answer)
+
 pub fit_below-fit_in_child-requires : goal.fit_below-fit_in_child-requires
 fit_below-fit_in_child-requires t c =
     let h = ap height_of c.node.view_is in
     let l = high (side c.node.inside.left) in
-    let e : c.fit_in_child-answer.new.node ≡ c.args.node.now = rw c.if-has_no_place.ensures at c.fit_in_child-answer.ensures.change in
-    let none : HasNoPlace c.args.search.now (blocks (child_at c.args.end c.args.node.now)) = none_closest c.args.end c.args.search.now
-    (blocks (child_at c.args.end c.args.node.now)) (blocks (child_at c.args.end c.fit_in_child-answer.new.node))
-    (rw c.if-has_no_place.ensures at c.fit_in_child-answer.ensures.answer) in
-    let n = nodes_missed c.args.search.now c.requires.search c.args.end c.args.node.now (omega arith) c.requires.may_fit none in
+    let e = same t c.before in
+    let n = nodes_missed c.args.search.now c.requires.search c.args.end c.args.node.now (omega arith) c.requires.may_fit (none t c.before) in
     rw (e, c.opposite.ensures) (omega arith, (c.requires.search, (c.requires.tree, omega (arith, c.fit_in_child-answer.ensures.count))))
 
 pub fit_below-returns-then-has_no_place-clause-answer : goal.fit_below-returns-then-has_no_place-clause-answer
 fit_below-returns-then-has_no_place-clause-answer t c =
     let h = ap height_of c.node.view_is in
     let l = high (side c.node.inside.left) in
-    let e : c.fit_in_child-answer.new.node ≡ c.args.node.now = rw c.if-has_no_place.ensures at c.fit_in_child-answer.ensures.change in
-    let none : HasNoPlace c.args.search.now (blocks (child_at c.args.end c.args.node.now)) = none_closest c.args.end c.args.search.now
-    (blocks (child_at c.args.end c.args.node.now)) (blocks (child_at c.args.end c.fit_in_child-answer.new.node))
-    (rw c.if-has_no_place.ensures at c.fit_in_child-answer.ensures.answer) in
+    let e = same t c.before.before in
     let tall = answered_tall c.fit_in_child.result c.args.node.now c.fit_in_child.new.node (omega arith)
     (rw e at c.fit_in_child.ensures.change) in
-    far_searched c.args.search.now c.args.end c.args.node.now c.fit_in_child.new.node c.fit_in_child.result (omega arith) tall none
+    far_searched c.args.search.now c.args.end c.args.node.now c.fit_in_child.new.node c.fit_in_child.result (omega arith) tall (none t c.before.before)
     (rw (e, c.opposite.ensures) at c.fit_in_child.ensures.same) (rw (e, c.opposite.ensures) at c.fit_in_child.ensures.answer)
 
 pub fit_below-returns-then-has_no_place-clause-count : goal.fit_below-returns-then-has_no_place-clause-count
 fit_below-returns-then-has_no_place-clause-count t c =
     let h = ap height_of c.node.view_is in
     let l = high (side c.node.inside.left) in
-    let e : c.fit_in_child-answer.new.node ≡ c.args.node.now = rw c.if-has_no_place.ensures at c.fit_in_child-answer.ensures.change in
-    let none : HasNoPlace c.args.search.now (blocks (child_at c.args.end c.args.node.now)) = none_closest c.args.end c.args.search.now
-    (blocks (child_at c.args.end c.args.node.now)) (blocks (child_at c.args.end c.fit_in_child-answer.new.node))
-    (rw c.if-has_no_place.ensures at c.fit_in_child-answer.ensures.answer) in
-    let n = nodes_missed c.args.search.now c.requires.search c.args.end c.args.node.now (omega arith) c.requires.may_fit none in
+    let e = same t c.before.before in
+    let n = nodes_missed c.args.search.now c.requires.search c.args.end c.args.node.now (omega arith) c.requires.may_fit (none t c.before.before) in
     let m = rw (e, c.opposite.ensures) at c.fit_in_child.ensures.count in
     omega (arith, c.fit_in_child-answer.ensures.count)
 
