@@ -15,7 +15,6 @@ ghost use Rattle.std.specs.Prelude.{
   IsSome,
   IsTrue,
   false,
-  IfNone,
   MatchOption,
   slice_index_or,
   IfOk,
@@ -33,6 +32,7 @@ ghost use Rattle.vm_chunks.specs.Entries.{
   entry_at,
   at_or_above,
   highest_below,
+  IsKeyOf,
 };
 
 mod runs;
@@ -131,7 +131,8 @@ impl<E: Entry> Chunk<E> {
 
     /// Returns the highest key, if there is an entry.
     pub fn highest_key(&self) -> Option<u64>
-        ensures none { IfNone result (self.now ≡ []) }
+        ensures value { MatchOption result (self.now ≡ [])
+            (λ key. (0 < length self.now) × IsKeyOf E.key_of key 0 self.now) }
         ensures fits { (d : E) → 0 < length self.now → E.key_of (slice_index_or self.now 0 d) < TOP }
     {
         let entry = self.highest()?;
