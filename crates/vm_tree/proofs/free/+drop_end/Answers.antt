@@ -35,7 +35,7 @@ invariant_of-node-in-Last t c =
       summed = record { left = c.node.invariant.summed.left; right = d.summed };
     }
 
--- What a drop in a child leaves at the link.
+-- The change of the subtree when a child drops its block.
 above : (t : _) (c : goal.After-update-arg-1 t) → DropsAbove c.args.end (stored_longest c.match-end.tree) (stored_alignments c.match-end.tree)
     (stored_height c.match-end.tree) (side c.args.tree.now) (side c.match-end.tree) c.match-end.change
 above t c =

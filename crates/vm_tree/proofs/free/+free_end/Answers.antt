@@ -36,7 +36,7 @@ invariant_of-node-in-Last t c =
       summed = record { left = c.node.invariant.summed.left; right = d.ensures.summed };
     }
 
--- What a free in a child leaves at the link, or that it frees nothing.
+-- The change of the subtree when a child frees its block, or no change.
 above : (t : _) (c : After-branch-freed t) → FreesAbove c.args.end (between c.args.start c.args.last) (stored_longest c.match-end.tree)
     (stored_alignments c.match-end.tree) (stored_height c.match-end.tree) (side c.args.tree.now) (side c.match-end.tree) c.match-end.branch'
 above t c =
