@@ -5,25 +5,13 @@ use Rattle.vm_ranges.specs.declared.state.NodeState.TheVariants.{Free, Allocated
 use Rattle.vm_leaf.specs.Block.{Block, held_block}
 use Rattle.vm_leaf.specs.Blocks.{nth, with_parts, upper_held, lower_held, middle_held, gap_over, IsLeaf}
 use Rattle.vm_leaf.specs.Leaf.{encoded_blocks, IsInside}
-use Rattle.vm_leaf.specs.States.{states_in, moved}
+use Rattle.vm_leaf.specs.States.{states_in, moved, WithHeld, WithFree}
 use Rattle.vm_leaf.specs.declared.leaf.Leaf.TheInside.{Inside}
 use Rattle.vm_leaf.proofs.Fields.{length_of, state_is}
 use Rattle.vm_leaf.proofs.Masks.{moved_below, moved_between, moved_above, moved_lt}
 use Rattle.vm_leaf.proofs.Splices.{Spliced, spliced}
 use Rattle.vm_leaf.proofs.Tiles.{leaf_held, leaf_upper, leaf_lower, leaf_middle, leaf_merged}
 use Rattle.vm_leaf.specs.declared.leaf.TheConstants.{CAPACITY}
-
--- A mask with the bit i set.
-pub record WithHeld (m : ℕ) (i : ℕ) (r : ℕ) : Type 0 where
-  pub same : states_in r i ≡ Allocated
-  pub others : (k : ℕ) → k ≢ i → states_in r k ≡ states_in m k
-  pub bound : (n : ℕ) → i < n → m < 2 ^ n → r < 2 ^ n
-
--- A mask with the bit i cleared.
-pub record WithFree (m : ℕ) (i : ℕ) (r : ℕ) : Type 0 where
-  pub same : states_in r i ≡ Free
-  pub others : (k : ℕ) → k ≢ i → states_in r k ≡ states_in m k
-  pub bound : (n : ℕ) → m < 2 ^ n → r < 2 ^ n
 
 module _ (a : Inside) (bs : List Block) (i : ℕ) (v : IsInside a) (e : length a.starts ≡ CAPACITY) (view : encoded_blocks a ≡ bs)
     (within : i < length bs) where

@@ -2,7 +2,7 @@
 ghost use Rattle.std.specs.Prelude.{◌≡◌, ◌≢◌, ℕ, ◌+◌, ◌-◌, ◌*◌, ◌%◌, ◌^◌, ◌<◌, ◌≤◌, [], ◌∷◌, ◌++◌, length, take, drop, MatchBool};
 ghost use Rattle.vm_ranges.specs.declared.state.NodeState.TheVariants.{Free, Allocated};
 ghost use Rattle.vm_ranges.specs.Range.{IsIn};
-ghost use Rattle.vm_leaf.specs.States.{states_in, moved};
+ghost use Rattle.vm_leaf.specs.States.{states_in, moved, WithHeld, WithFree};
 ghost use Rattle.vm_leaf.specs.Block.{held_block};
 ghost use Rattle.vm_leaf.specs.Rest.{IsRest, added_by};
 ghost use Rattle.vm_leaf.specs.Blocks.{nth, start_of, end_of, with_parts, upper_held, lower_held, middle_held, gap_over, parts, freed_at, IsJoined, IsLeaf};
@@ -90,9 +90,7 @@ fn state_in(held: u64, i: usize) -> NodeState
 #[tactic(auto, using(crate::proofs::Masks::setting))]
 fn with_held(held: u64, i: usize) -> u64
     requires { i < 64 }
-    ensures same { states_in result i ≡ Allocated }
-    ensures others { (k : ℕ) → k ≢ i → states_in result k ≡ states_in held k }
-    ensures bound { (n : ℕ) → i < n → held < 2 ^ n → result < 2 ^ n }
+    ensures { WithHeld held i result }
 {
     held | 1 << i
 }
@@ -102,9 +100,7 @@ fn with_held(held: u64, i: usize) -> u64
 #[tactic(auto, using(crate::proofs::Masks::clearing))]
 fn without_held(held: u64, i: usize) -> u64
     requires within { i < 64 }
-    ensures same { states_in result i ≡ Free }
-    ensures others { (k : ℕ) → k ≢ i → states_in result k ≡ states_in held k }
-    ensures bound { (n : ℕ) → held < 2 ^ n → result < 2 ^ n }
+    ensures { WithFree held i result }
 {
     held & !(1 << i)
 }
