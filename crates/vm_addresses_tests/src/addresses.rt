@@ -26,7 +26,7 @@ const LAST: u64 = MAX - 1;
 const HALF: u64 = 1 << 63;
 
 /// A call of an allocator.
-#[derive(Clone, Copy, Debug)]
+#[derive(Clone, Copy)]
 enum Call {
     /// Replaces the allocator by a new one, with a base and a size.
     Space(u64, u64),
@@ -174,9 +174,8 @@ fn replay(
     space: &mut AddressAllocator,
     rows: &[(Call, Expected)],
 ) {
-    for (call, want) in rows {
-        let answer = call.ask(space, rt.alloc());
-        expect_eq(rt, answer, want.answer(), call);
+    for (row, (call, want)) in rows.iter().enumerate() {
+        expect_eq(rt, call.ask(space, rt.alloc()), want.answer(), row);
     }
 }
 

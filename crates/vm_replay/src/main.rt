@@ -2,20 +2,20 @@
 //! devices, and has one line in the standard output.
 #![tactic(auto)]
 
-ghost use Rattle.std.specs.Prelude.{◌≡◌};
-ghost use Rattle.vm_replay.specs.Status.{status_of};
+ghost use Rattle.vm_replay.specs.Status.{HasAnswered};
 
-#[cfg(test)]
-mod tests;
-
+use std::alloc::Global;
+use std::io::{Read, Write};
 use std::process::ExitCode;
 use vm_lines::{RunError, run};
 
-/// Returns the exit status of the program.
-fn status(outcome: Result<(), RunError>) -> u8
-    ensures { result ≡ status_of outcome }
+/// Executes the lines of the input, and returns the exit status: 0 at the end of the input, 1 after a failed read,
+/// and 2 after a failed write.
+fn replay<R: Read, W: Write>(alloc: Global, reader: &mut R, writer: &mut W) -> u8
+    ensures { HasAnswered result
+        (R.remaining reader.old) (R.remaining reader.new) (W.contents writer.old) (W.contents writer.new) }
 {
-    match outcome {
+    match run(alloc, reader, writer) {
         Ok(()) => 0,
         Err(RunError::Read) => 1,
         Err(RunError::Write) => 2,
@@ -23,5 +23,5 @@ fn status(outcome: Result<(), RunError>) -> u8
 }
 
 fn main(rt: HostRuntime) -> ExitCode {
-    ExitCode::from(status(run(rt.alloc(), &mut rt.stdin(), &mut rt.stdout())))
+    ExitCode::from(replay(rt.alloc(), &mut rt.stdin(), &mut rt.stdout()))
 }

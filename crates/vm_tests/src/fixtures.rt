@@ -7,6 +7,10 @@ use vm_allocator::allocation_engine::NodeState;
 use vm_allocator::{AddressAllocator, IdAllocator, RangeInclusive, ValueError};
 use vm_devices::DeviceManager;
 
+/// The number of bytes that `fail_from_here` allocates. Nothing else allocates this number.
+/// tests/refused_memory reads it here.
+const LAST_ALLOCATION: usize = 1_000_003;
+
 /// The message if memory runs out.
 pub(crate) const ENOUGH: &str = "there is enough memory";
 
@@ -28,6 +32,11 @@ pub(crate) fn expect_true(rt: &impl Abort, is_true: bool, of: impl Debug + Drop)
 /// Returns the range from one address to another.
 pub(crate) fn range(rt: &impl Abort, start: u64, end: u64) -> RangeInclusive {
     RangeInclusive::new(start, end).expect(rt, "it is a range")
+}
+
+/// Allocates, whether that fails or not. tests/refused_memory makes every later allocation fail.
+pub(crate) fn fail_from_here(alloc: Global) {
+    let _ = Vec::<u8>::with_capacity(alloc, LAST_ALLOCATION);
 }
 
 /// Creates the allocator of a space.

@@ -1,4 +1,5 @@
-//! Tests of values and callers of several libraries. The other crates of tests have those of one library.
+//! Tests of devices, and of values and callers of several libraries. The other crates of tests have those of one
+//! library.
 //!
 //! All of them guard against what no clause excludes:
 //! - a call that allocates although it needs no memory.
@@ -9,7 +10,11 @@
 #[cfg(test)]
 mod deep;
 #[cfg(test)]
+mod devices;
+#[cfg(test)]
 mod fixtures;
+#[cfg(test)]
+mod plugging;
 #[cfg(test)]
 mod uses;
 #[cfg(test)]

@@ -137,21 +137,30 @@ fn use_restored(rt: &(impl Abort + AllocGlobal), gap: &AddressAllocator) {
     expect_true(rt, empty == *gap, "the same gap");
 }
 
-/// Passes allocators and a manager through their texts.
-fn use_texts(rt: &(impl Abort + AllocGlobal), gap: &AddressAllocator) {
-    if let Ok(again) = space_through_text(rt.alloc(), gap) {
-        expect_true(rt, again == *gap, "the same gap");
-    }
-    if let Ok(ids) = IdAllocator::new(rt.alloc(), 5, 23) {
-        if let Ok(again) = ids_through_text(rt.alloc(), &ids) {
-            expect_true(rt, again == ids, "the same ids");
-        }
-    }
-    if let Ok(devices) = DeviceManager::new(rt.alloc(), 5, 23, 0xE000_0000, 0x1000) {
-        if let Ok(again) = devices_through_text(rt.alloc(), &devices) {
-            expect_true(rt, again == devices, "the same devices");
-        }
-    }
+/// Passes an allocator of addresses through its text.
+fn use_space_text(rt: &(impl Abort + AllocGlobal), gap: &AddressAllocator) {
+    let again = space_through_text(rt.alloc(), gap).expect(rt, ENOUGH);
+    expect_true(rt, again == *gap, "the same gap");
+}
+
+/// Passes an allocator of ids through its text.
+fn use_id_text(rt: &(impl Abort + AllocGlobal), ids: &IdAllocator) {
+    let again = ids_through_text(rt.alloc(), ids).expect(rt, ENOUGH);
+    expect_true(rt, again == *ids, "the same ids");
+}
+
+/// Passes a manager through its text.
+fn use_device_text(rt: &(impl Abort + AllocGlobal), devices: &DeviceManager) {
+    let again = devices_through_text(rt.alloc(), devices).expect(rt, ENOUGH);
+    expect_true(rt, again == *devices, "the same devices");
+}
+
+/// Passes new ids and a new manager through their texts.
+fn use_texts(rt: &(impl Abort + AllocGlobal)) {
+    let ids = IdAllocator::new(rt.alloc(), 5, 23);
+    use_id_text(rt, &ids.expect(rt, ENOUGH));
+    let devices = DeviceManager::new(rt.alloc(), 5, 23, 0xE000_0000, 0x1000);
+    use_device_text(rt, &devices.expect(rt, ENOUGH));
 }
 
 /// Clones iterators over the allocated ranges and the gaps.
@@ -198,7 +207,8 @@ fn uses(rt: HostRuntime) {
     use_windows(&rt);
     let mut gap = made(&rt, 0xE000_1000, 0xFF_F000);
     use_restored(&rt, &gap);
-    use_texts(&rt, &gap);
+    use_space_text(&rt, &gap);
+    use_texts(&rt);
     use_bar(&rt, &mut gap);
     use_clones(&rt, &gap);
     use_memory(&rt);

@@ -24,7 +24,7 @@ pub trait AllocGlobal {
 
 impl AllocGlobal for HostRuntime {}
 
-/// A type whose values need not be moved on: every type of Rust.
+/// A type whose values can be dropped. Every type of Rust is one.
 pub trait Drop {}
 
 impl<T> Drop for T {}

@@ -1,30 +1,50 @@
 //! Tests that vm-allocator has for the nodes of its tree, by the same names. A key that is inserted is an
-//! allocated range. Contracts state that the tree is balanced.
+//! allocated range.
 use super::*;
+use crate::fixtures::{holds_exactly, range};
+
+/// Makes the calls in turn on an allocator of 0x1000 addresses. Its blocks fit in one leaf after each call.
+fn replay_balanced(
+    rt: &(impl Abort + AllocGlobal),
+    space: &mut AddressAllocator,
+    rows: &[(Call, Expected)],
+) {
+    for row in rows {
+        replay(rt, space, &[*row]);
+        expect_eq(rt, space.height(), 1, "one leaf");
+    }
+}
 
 #[test]
 fn test_is_free(rt: HostRuntime) {
-    let rows = &[
-        (Exact(0x11, 1, 0x100), Range(0x100, 0x110)),
-        (Find(0xFF, 0xFF), NotAvailable),
-        (Find(0x100, 0x100), Range(0x100, 0x110)),
-        (Find(0x110, 0x110), Range(0x100, 0x110)),
-        (Find(0x111, 0x111), NotAvailable),
-    ];
-    replay_in(&rt, 0, 0x1000, rows);
+    let mut space = made(&rt, 0, 0x1000);
+    replay(
+        &rt,
+        &mut space,
+        &[(Exact(0x11, 1, 0x100), Range(0x100, 0x110))],
+    );
+    for (address, is_free) in [(0xFF, true), (0x100, false), (0x110, false), (0x111, true)] {
+        expect_eq(&rt, space.gap_at(address).is_some(), is_free, address);
+        expect_eq(&rt, space.held_at(address).is_none(), is_free, address);
+    }
 }
 
 #[test]
 fn test_search(rt: HostRuntime) {
+    let mut space = made(&rt, 0, 0x1000);
     let rows = &[
         (Exact(0x11, 1, 0x100), Range(0x100, 0x110)),
         (Exact(0xA, 1, 0x90), Range(0x90, 0x99)),
         (Exact(0x100, 1, 0x200), Range(0x200, 0x2FF)),
-        (Find(0x90, 0x99), Range(0x90, 0x99)),
-        (Find(0x200, 0x250), Range(0x200, 0x2FF)),
-        (Find(0x111, 0x1FE), NotAvailable),
     ];
-    replay_in(&rt, 0, 0x1000, rows);
+    replay(&rt, &mut space, rows);
+    for (start, end, is_held) in [
+        (0x90, 0x99, true),
+        (0x200, 0x250, false),
+        (0x111, 0x1FE, false),
+    ] {
+        expect_eq(&rt, space.holds(&range(&rt, start, end)), is_held, start);
+    }
 }
 
 #[test]
@@ -70,7 +90,7 @@ fn test_tree_insert_balanced(rt: HostRuntime) {
         (Exact(0x10, 1, 0x70), Range(0x70, 0x7F)),
         (Exact(0x10, 1, 0x60), Range(0x60, 0x6F)),
     ];
-    replay_in(&rt, 0, 0x1000, rows);
+    replay_balanced(&rt, &mut made(&rt, 0, 0x1000), rows);
 }
 
 #[test]
@@ -125,19 +145,21 @@ fn test_tree_mark_as_allocated(rt: HostRuntime) {
 
 #[test]
 fn test_tree_delete(rt: HostRuntime) {
+    let mut space = made(&rt, 0, 0x1000);
     let rows = &[
         (Exact(0x91, 1, 0x200), Range(0x200, 0x290)),
         (Exact(0x100, 1, 0x300), Range(0x300, 0x3FF)),
         (Free(0x200, 0x290), Range(0x200, 0x290)),
         (Exact(0x91, 1, 0x200), Range(0x200, 0x290)),
         (Exact(0x11, 1, 0x100), Range(0x100, 0x110)),
-        (Find(0x100, 0x110), Range(0x100, 0x110)),
-        (Find(0x300, 0x3FF), Range(0x300, 0x3FF)),
+    ];
+    replay_balanced(&rt, &mut space, rows);
+    let all = &[(0x100, 0x110), (0x200, 0x290), (0x300, 0x3FF)];
+    expect_true(&rt, holds_exactly(&space, all), "all three");
+    let rows = &[
         (Free(0x200, 0x290), Range(0x200, 0x290)),
         (Free(0x300, 0x3FF), Range(0x300, 0x3FF)),
-        (Find(0x100, 0x110), Range(0x100, 0x110)),
-        (Find(0x200, 0x200), NotAvailable),
-        (Find(0x300, 0x300), NotAvailable),
     ];
-    replay_in(&rt, 0, 0x1000, rows);
+    replay_balanced(&rt, &mut space, rows);
+    expect_true(&rt, holds_exactly(&space, &[(0x100, 0x110)]), "the lowest");
 }

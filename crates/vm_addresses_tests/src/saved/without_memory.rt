@@ -32,23 +32,33 @@ const NONE_REPAIRED: &str = r#"[
 const ONE_NODE: &str = r#"{"address_space":{"start":16,"end":19},"interval_tree":{"root":{
     "key":{"start":16,"end":19},"node_state":"Allocated","left":null,"right":null,"height":1}}}"#;
 
+/// Reads values that encode no range, and one that does.
+fn read_ranges(rt: &(impl Abort + AllocGlobal), none: &Value, ends: &Value) {
+    for value in items(rt, none) {
+        let refusal = RangeInclusive::from_value(rt.alloc(), value).err();
+        expect_eq(rt, refusal, Some(ValueError::NotAState), NO_RANGES);
+    }
+    let answer = RangeInclusive::from_value(rt.alloc(), ends);
+    expect_eq(rt, answer, Ok(range(rt, 16, 19)), ENDS);
+}
+
+/// Reads values that encode no state, and one that does.
+fn read_states(rt: &(impl Abort + AllocGlobal), none: &Value, state: &Value) {
+    for value in items(rt, none) {
+        let refusal = NodeState::from_value(rt.alloc(), value).err();
+        expect_eq(rt, refusal, Some(ValueError::NotAState), NO_STATES);
+    }
+    let answer = NodeState::from_value(rt.alloc(), state);
+    expect_eq(rt, answer, Ok(NodeState::Allocated), "state");
+}
+
 #[test]
 fn ranges_and_states_checked(rt: HostRuntime) {
     let (no_ranges, no_states) = (parsed(&rt, NO_RANGES), parsed(&rt, NO_STATES));
     let (state, ends) = (parsed(&rt, r#""Allocated""#), parsed(&rt, ENDS));
     fail_from_here(rt.alloc());
-    for value in items(&rt, &no_ranges) {
-        let refusal = RangeInclusive::from_value(rt.alloc(), value).err();
-        expect_eq(&rt, refusal, Some(ValueError::NotAState), NO_RANGES);
-    }
-    for value in items(&rt, &no_states) {
-        let refusal = NodeState::from_value(rt.alloc(), value).err();
-        expect_eq(&rt, refusal, Some(ValueError::NotAState), NO_STATES);
-    }
-    let answer = NodeState::from_value(rt.alloc(), &state);
-    expect_eq(&rt, answer, Ok(NodeState::Allocated), "state");
-    let answer = RangeInclusive::from_value(rt.alloc(), &ends);
-    expect_eq(&rt, answer, Ok(range(&rt, 16, 19)), ENDS);
+    read_ranges(&rt, &no_ranges, &ends);
+    read_states(&rt, &no_states, &state);
     // The only allocation. Its result shows whether the run is without memory.
     let written = range(&rt, 16, 19).to_value(rt.alloc());
     assert!(rt; written.is_ok() || written.err() == Some(Error::OutOfMemory));

@@ -11,7 +11,7 @@ join-requires-clause-bounds g c =
     let l : c.min.result + 1 < length c.args.chunks.now.items = search rules in
     omega (arith, n, l)
 
--- There are two chunks, and the one that is joined is at `at` or behind it.
+-- There are two chunks, and the one at `at` is joined with the one before or behind it.
 several : (g : _) (c : After-join g) → 2 ≤ length c.args.chunks.now.items
 several g c = search rules
 

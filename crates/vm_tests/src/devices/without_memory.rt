@@ -40,11 +40,8 @@ fn release_first(rt: &impl Abort, devices: &mut DeviceManager) {
     expect_true(rt, is_true, "a release");
 }
 
-#[test]
-fn looked_up_or_refused(rt: HostRuntime) {
-    let mut devices = made(&rt, (0, 1), 0x1000, 0x1000);
-    let reserved = &[(First(0x800, 1), Device(0, 0x1000, 0x17FF))];
-    replay(&rt, &mut devices, reserved);
+/// Makes the calls that are refused: there is one device.
+fn expect_refused(rt: &(impl Abort + AllocGlobal), devices: &mut DeviceManager) {
     let rows = &[
         (LookUp(0), Device(0, 0x1000, 0x17FF)),
         (LookUp(1), Gone),
@@ -53,10 +50,21 @@ fn looked_up_or_refused(rt: HostRuntime) {
         (Exact(4, 4, 0x1801), Unaligned),
         (Release(1), NeverAllocated(1)),
     ];
-    fail_from_here(rt.alloc());
-    replay(&rt, &mut devices, rows);
-    expect_one(&rt, &devices);
+    replay(rt, devices, rows);
     let refused = DeviceManager::new(rt.alloc(), 2, 1, 0, 0).err();
-    expect_eq(&rt, refused, Some(Error::InvalidRange(2, 1)), "no ids");
-    release_first(&rt, &mut devices);
+    expect_eq(rt, refused, Some(Error::InvalidRange(2, 1)), "no ids");
+}
+
+/// Reserves a device. From then on no call can allocate.
+fn reserve_and_look(rt: &(impl Abort + AllocGlobal), devices: &mut DeviceManager) {
+    replay(rt, devices, &[(First(0x800, 1), Device(0, 0x1000, 0x17FF))]);
+    fail_from_here(rt.alloc());
+    expect_refused(rt, devices);
+    expect_one(rt, devices);
+    release_first(rt, devices);
+}
+
+#[test]
+fn looked_up_or_refused(rt: HostRuntime) {
+    reserve_and_look(&rt, &mut made(&rt, (0, 1), 0x1000, 0x1000));
 }

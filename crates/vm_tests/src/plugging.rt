@@ -8,10 +8,11 @@ use vm_devices::{DeviceManager, DeviceSlot};
 
 /// A device that is plugged in, out and in again: it gets the same id and the same window.
 #[tactic(auto, using(vm_devices::proofs::Callers::callers))]
-pub fn replugged(alloc: Global) -> Result<(DeviceSlot, DeviceSlot)>
+pub fn replugged(alloc: Global, devices: &mut DeviceManager) -> Result<(DeviceSlot, DeviceSlot)>
     ensures { IfOk result (λ both. both.0 ≡ both.1) }
 {
-    let mut devices = DeviceManager::new(alloc, 0, 100, 0xD000_0000, 0x3000_0000)?;
+    // Proof: gives the prover `state`.
+    let _ = devices.slot(0);
     let first = devices.reserve(alloc, 0x1000, 0x1000, AllocPolicy::FirstMatch)?;
     devices.release(first.id)?;
     let again = devices.reserve(alloc, 0x1000, 0x1000, AllocPolicy::FirstMatch)?;

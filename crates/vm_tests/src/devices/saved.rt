@@ -46,14 +46,18 @@ const NO_DEVICE: &str = r#"{"version":1,
     "key":{"start":4096,"end":8191},"node_state":"Free","left":null,"right":null,"height":1}}},
     "slots":[]}"#;
 
-/// Checks that a text encodes a manager, that the manager is written like this, and that these
-/// calls have their results.
-fn expect_manager(rt: &(impl Abort + AllocGlobal), text: &str, rows: &[(Call, Expected)]) {
+/// Returns the manager that a text encodes. It is written like this again.
+fn read(rt: &(impl Abort + AllocGlobal), text: &str) -> DeviceManager {
     let value = parsed(rt, text);
-    let mut devices = DeviceManager::from_value(rt.alloc(), &value).expect(rt, text);
+    let devices = DeviceManager::from_value(rt.alloc(), &value).expect(rt, text);
     let saved = devices.to_value(rt.alloc()).expect(rt, ENOUGH);
     expect_true(rt, saved == value, text);
-    replay(rt, &mut devices, rows);
+    devices
+}
+
+/// Checks that a text encodes a manager, and that these calls of it have their results.
+fn expect_manager(rt: &(impl Abort + AllocGlobal), text: &str, rows: &[(Call, Expected)]) {
+    replay(rt, &mut read(rt, text), rows);
 }
 
 #[test]

@@ -10,11 +10,13 @@ use vm_allocator::allocation_engine::NodeState::Allocated;
 use vm_allocator::{AllocPolicy, Constraint, Error, IdRequest, RangeInclusive, Result};
 use vm_devices::DeviceManager;
 
+mod fields;
 mod saved;
+mod uses;
 mod without_memory;
 
 /// A call of a manager.
-#[derive(Clone, Copy, Debug)]
+#[derive(Clone, Copy)]
 enum Call {
     /// Reserves the lowest range of a size and an alignment.
     First(u64, u64),
@@ -128,8 +130,8 @@ fn look_up(devices: &DeviceManager, id: u32) -> Option<(u32, u64, u64)> {
 
 /// Makes the calls in turn, and checks their results.
 fn replay(rt: &(impl Abort + AllocGlobal), devices: &mut DeviceManager, rows: &[(Call, Expected)]) {
-    for (call, want) in rows {
-        expect_eq(rt, call.ask(devices, rt.alloc()), want.answer(), call);
+    for (row, (call, want)) in rows.iter().enumerate() {
+        expect_eq(rt, call.ask(devices, rt.alloc()), want.answer(), row);
     }
 }
 

@@ -4,9 +4,11 @@ ghost use Rattle.vm_devices.specs.Devices.{MovesDevice};
 ghost use Rattle.vm_devices.specs.Manager.{device_state};
 ghost use Rattle.vm_devices.specs.Queries.{DeviceAt};
 
+use super::made;
 use crate::fixtures::{ENOUGH, expect_true, range};
 use crate::plugging::replugged;
 use std::alloc::Global;
+use std::process::Abort;
 use vm_allocator::{AllocPolicy, Constraint, IdRequest, RangeInclusive, Result};
 use vm_devices::{DeviceManager, DeviceSlot};
 
@@ -41,21 +43,25 @@ fn moved(
     devices.move_constraint(alloc, id, request)
 }
 
-#[test]
-fn uses(rt: HostRuntime) {
-    let made = DeviceManager::new(rt.alloc(), 5, 23, 0xE000_0000, 0x1000);
-    let mut devices = made.expect(&rt, ENOUGH);
-    let request = Constraint::new(0x1000, 1, AllocPolicy::FirstMatch).expect(&rt, ENOUGH);
-    let slot = plug(rt.alloc(), &mut devices, 7, request).expect(&rt, ENOUGH);
-    expect_true(&rt, owner(&devices, 0xE000_0FFF) == Some(slot), &slot);
-    let stays = moved(rt.alloc(), &mut devices, 7, request);
-    expect_true(&rt, stays == Ok(slot.range), &stays);
+/// Plugs a device in, looks it up, and moves it to where it is.
+fn use_device(rt: &(impl Abort + AllocGlobal), devices: &mut DeviceManager) {
+    let request = Constraint::new(0x1000, 1, AllocPolicy::FirstMatch).expect(rt, ENOUGH);
+    let slot = plug(rt.alloc(), devices, 7, request).expect(rt, ENOUGH);
+    expect_true(rt, owner(devices, 0xE000_0FFF) == Some(slot), &slot);
+    let stays = moved(rt.alloc(), devices, 7, request);
+    expect_true(rt, stays == Ok(slot.range), &stays);
+}
+
+/// Plugs a device in, and a second one in, out and in again.
+fn use_devices(rt: &(impl Abort + AllocGlobal), devices: &mut DeviceManager) {
+    use_device(rt, devices);
+    let (first, again) = replugged(rt.alloc(), devices).expect(rt, ENOUGH);
+    let window = range(rt, 0xE000_1000, 0xE000_1FFF);
+    expect_true(rt, first.id == 5 && first.range == window, first);
+    expect_true(rt, again == first, again);
 }
 
 #[test]
-fn replugs(rt: HostRuntime) {
-    let (first, again) = replugged(rt.alloc()).expect(&rt, "there is room");
-    let window = range(&rt, 0xD000_0000, 0xD000_0FFF);
-    expect_true(&rt, first.id == 0 && first.range == window, first);
-    expect_true(&rt, again == first, again);
+fn uses(rt: HostRuntime) {
+    use_devices(&rt, &mut made(&rt, (5, 23), 0xE000_0000, 0x2000));
 }
