@@ -7,8 +7,6 @@ ghost use Rattle.std.specs.List.{Contains};
 ghost use Rattle.vm_allocator.specs.Range.{address_count};
 ghost use Rattle.vm_allocator.specs.Allocator.{state_of};
 ghost use Rattle.vm_allocator.specs.Ids.{IsHeld};
-ghost use Rattle.vm_devices.specs.Manager.{device_state, made_manager};
-ghost use Rattle.vm_devices.specs.Saved.{EncodesManager, ReadsInParts};
 
 use crate::fixtures::{ENOUGH, expect_true, made, range};
 use crate::windows::{restored, windows};
@@ -18,7 +16,6 @@ use std::process::Abort;
 use vm_allocator::{
     AddressAllocator, AllocPolicy, Error, IdAllocator, RangeInclusive, Ranges, Result, ValueError,
 };
-use vm_devices::DeviceManager;
 
 /// Allocates a bar, which must start at a multiple of its size.
 #[tactic(auto, using(vm_allocator::proofs::Callers::callers))]
@@ -55,15 +52,8 @@ fn take_interrupt(numbers: &mut IdAllocator) -> Result<u32>
     numbers.allocate_id()
 }
 
-/// Reads a manager.
-fn devices_read(alloc: Global, value: &Value) -> std::result::Result<DeviceManager, ValueError>
-    ensures { ReadsInParts (EncodesManager (view value.now)) (made_manager result) }
-{
-    DeviceManager::from_value(alloc, value)
-}
-
 /// Parses the text of a value.
-fn parsed_again(alloc: Global, value: &Value) -> std::result::Result<Value, ValueError>
+pub(crate) fn parsed_again(alloc: Global, value: &Value) -> std::result::Result<Value, ValueError>
     ensures { IfOk result (λ again. depth (view value.now) ≤ max_depth → view again ≡ view value.now) }
 {
     let Ok(text) = value.to_string(alloc) else {
@@ -103,20 +93,6 @@ fn ids_through_text(
     IdAllocator::from_value(alloc, &parsed_again(alloc, &saved)?)
 }
 
-/// Returns the manager that is read from the text of another: the same one.
-#[tactic(auto, using(vm_devices::proofs::Callers::manager_through_text))]
-fn devices_through_text(
-    alloc: Global,
-    devices: &DeviceManager,
-) -> std::result::Result<DeviceManager, ValueError>
-    ensures { IfOk result (λ again. device_state again ≡ device_state devices.now) }
-{
-    let Ok(saved) = devices.to_value(alloc) else {
-        return Err(ValueError::OutOfMemory);
-    };
-    devices_read(alloc, &parsed_again(alloc, &saved)?)
-}
-
 /// Allocates two windows.
 fn use_windows(rt: &(impl Abort + AllocGlobal)) {
     let (first, second) = windows(rt.alloc()).expect(rt, "there is room");
@@ -147,20 +123,6 @@ fn use_space_text(rt: &(impl Abort + AllocGlobal), gap: &AddressAllocator) {
 fn use_id_text(rt: &(impl Abort + AllocGlobal), ids: &IdAllocator) {
     let again = ids_through_text(rt.alloc(), ids).expect(rt, ENOUGH);
     expect_true(rt, again == *ids, "the same ids");
-}
-
-/// Passes a manager through its text.
-fn use_device_text(rt: &(impl Abort + AllocGlobal), devices: &DeviceManager) {
-    let again = devices_through_text(rt.alloc(), devices).expect(rt, ENOUGH);
-    expect_true(rt, again == *devices, "the same devices");
-}
-
-/// Passes new ids and a new manager through their texts.
-fn use_texts(rt: &(impl Abort + AllocGlobal)) {
-    let ids = IdAllocator::new(rt.alloc(), 5, 23);
-    use_id_text(rt, &ids.expect(rt, ENOUGH));
-    let devices = DeviceManager::new(rt.alloc(), 5, 23, 0xE000_0000, 0x1000);
-    use_device_text(rt, &devices.expect(rt, ENOUGH));
 }
 
 /// Clones iterators over the allocated ranges and the gaps.
@@ -195,11 +157,12 @@ fn use_memory(rt: &(impl Abort + AllocGlobal)) {
     expect_true(rt, again == Ok(slot), again);
 }
 
-/// Allocates the first two numbers for devices.
+/// Allocates the first two numbers for devices, and passes the allocator through its text.
 fn use_numbers(rt: &(impl Abort + AllocGlobal)) {
     let mut numbers = IdAllocator::new(rt.alloc(), 5, 23).expect(rt, "it is a range");
     expect_true(rt, take_interrupt(&mut numbers) == Ok(5), "5");
     expect_true(rt, take_interrupt(&mut numbers) == Ok(6), "6");
+    use_id_text(rt, &numbers);
 }
 
 #[test]
@@ -208,7 +171,6 @@ fn uses(rt: HostRuntime) {
     let mut gap = made(&rt, 0xE000_1000, 0xFF_F000);
     use_restored(&rt, &gap);
     use_space_text(&rt, &gap);
-    use_texts(&rt);
     use_bar(&rt, &mut gap);
     use_clones(&rt, &gap);
     use_memory(&rt);

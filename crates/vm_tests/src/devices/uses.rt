@@ -1,15 +1,20 @@
 //! Callers of calls of devices. They guard against clauses from which a caller cannot prove what it needs.
+ghost use Rattle.std.specs.Prelude.{◌≡◌, IfOk};
+ghost use Rattle.serde_json.specs.View.{view};
 ghost use Rattle.vm_allocator.specs.Counts.Parts.{AllocatesInParts};
 ghost use Rattle.vm_devices.specs.Devices.{MovesDevice};
-ghost use Rattle.vm_devices.specs.Manager.{device_state};
+ghost use Rattle.vm_devices.specs.Manager.{device_state, made_manager};
 ghost use Rattle.vm_devices.specs.Queries.{DeviceAt};
+ghost use Rattle.vm_devices.specs.Saved.{EncodesManager, ReadsInParts};
 
 use super::made;
 use crate::fixtures::{ENOUGH, expect_true, range};
 use crate::plugging::replugged;
+use crate::uses::parsed_again;
+use serde_json::Value;
 use std::alloc::Global;
 use std::process::Abort;
-use vm_allocator::{AllocPolicy, Constraint, IdRequest, RangeInclusive, Result};
+use vm_allocator::{AllocPolicy, Constraint, IdRequest, RangeInclusive, Result, ValueError};
 use vm_devices::{DeviceManager, DeviceSlot};
 
 /// Plugs a device in with an id. The tree of its addresses comes from at most one allocation and one free.
@@ -43,6 +48,27 @@ fn moved(
     devices.move_constraint(alloc, id, request)
 }
 
+/// Reads a manager.
+fn read(alloc: Global, value: &Value) -> std::result::Result<DeviceManager, ValueError>
+    ensures { ReadsInParts (EncodesManager (view value.now)) (made_manager result) }
+{
+    DeviceManager::from_value(alloc, value)
+}
+
+/// Returns the manager that is read from the text of another: the same one.
+#[tactic(auto, using(vm_devices::proofs::Callers::manager_through_text))]
+fn through_text(
+    alloc: Global,
+    devices: &DeviceManager,
+) -> std::result::Result<DeviceManager, ValueError>
+    ensures { IfOk result (λ again. device_state again ≡ device_state devices.now) }
+{
+    let Ok(saved) = devices.to_value(alloc) else {
+        return Err(ValueError::OutOfMemory);
+    };
+    read(alloc, &parsed_again(alloc, &saved)?)
+}
+
 /// Plugs a device in, looks it up, and moves it to where it is.
 fn use_device(rt: &(impl Abort + AllocGlobal), devices: &mut DeviceManager) {
     let request = Constraint::new(0x1000, 1, AllocPolicy::FirstMatch).expect(rt, ENOUGH);
@@ -52,13 +78,25 @@ fn use_device(rt: &(impl Abort + AllocGlobal), devices: &mut DeviceManager) {
     expect_true(rt, stays == Ok(slot.range), &stays);
 }
 
-/// Plugs a device in, and a second one in, out and in again.
-fn use_devices(rt: &(impl Abort + AllocGlobal), devices: &mut DeviceManager) {
-    use_device(rt, devices);
+/// Plugs a second device in, out and in again.
+fn use_replugged(rt: &(impl Abort + AllocGlobal), devices: &mut DeviceManager) {
     let (first, again) = replugged(rt.alloc(), devices).expect(rt, ENOUGH);
     let window = range(rt, 0xE000_1000, 0xE000_1FFF);
     expect_true(rt, first.id == 5 && first.range == window, first);
     expect_true(rt, again == first, again);
+}
+
+/// Passes a manager through its text.
+fn use_text(rt: &(impl Abort + AllocGlobal), devices: &DeviceManager) {
+    let again = through_text(rt.alloc(), devices).expect(rt, ENOUGH);
+    expect_true(rt, again == *devices, "the same devices");
+}
+
+/// Makes all calls above.
+fn use_devices(rt: &(impl Abort + AllocGlobal), devices: &mut DeviceManager) {
+    use_device(rt, devices);
+    use_replugged(rt, devices);
+    use_text(rt, devices);
 }
 
 #[test]
