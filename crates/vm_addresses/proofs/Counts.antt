@@ -1,11 +1,7 @@
 pub mod Allocating
-pub mod AllocatingParts
 pub mod Balanced
 pub mod GapSearches
 pub mod LeftClear
 pub mod MadeOrNot
 pub mod MisalignedGaps
-pub mod PartCounts
 pub mod SimpleBounds
-pub mod TakenParts
-pub mod TooShortGaps

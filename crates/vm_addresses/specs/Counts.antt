@@ -1,4 +1,3 @@
 pub mod Steps
 pub mod GapSearch
 pub mod NodeCounts
-pub mod Parts

@@ -1,10 +1,10 @@
 -- The move of a held range to the place of a request.
-use Rattle.std.specs.Prelude.{◌≡◌, ◌≢◌, ℕ, ◌+◌, ◌<◌, ◌≤◌, true, false, length, None, Result, Ok, Err, MatchResult}
+use Rattle.std.specs.Prelude.{◌≡◌, ◌≢◌, ℕ, ◌<◌, ◌≤◌, true, false, length, None, Result, Ok, Err, MatchResult}
 use Rattle.std.specs.List.{Contains}
 use Rattle.vm_ranges.specs.Cases.{Unless}
 use Rattle.vm_ranges.specs.Range.{Range, MAX, IsIn, address_count}
 use Rattle.vm_ranges.specs.Request.{Request, request_for}
-use Rattle.vm_addresses.specs.Address.{AddressState, IsAddressState, IsClear, holding, releasing}
+use Rattle.vm_addresses.specs.Address.{AddressState, IsAddressState, IsClear, SplitsGap, holding, releasing}
 use Rattle.vm_addresses.specs.Answer.{SPLIT_LIMIT_MIN_HELD, Allocates}
 use Rattle.vm_addresses.specs.declared.address_allocator.moving.BegunMove.{BegunMove}
 use Rattle.vm_ranges.specs.declared.error.Error.{Error}
@@ -29,41 +29,21 @@ MovesRange old r request answer new =
     (mid : AddressState) × Allocates (releasing r old) request answer mid ×
     MatchResult answer (λ _. new ≡ mid) (λ _. new ≡ old))
 
--- The gap that the held range r leaves when it is freed.
-pub record IsLeftGap (old : AddressState) (r gap : Range) : Type 0 where
-  pub from : gap.start ≤ r.start
-  pub upto : r.end ≤ gap.end
-  pub clear : (x : ℕ) → IsIn gap x → IsClear (releasing r old) x
-  pub before : (x : ℕ) → x + 1 ≡ gap.start → ¬ IsClear (releasing r old) x
-  pub after : ¬ IsClear (releasing r old) (gap.end + 1)
-
--- The range q ends below MAX, and lies in the gap that r leaves.
-pub record IsInLeftGap (old : AddressState) (r gap q : Range) : Type 0 where
-  pub left : IsLeftGap old r gap
-  pub from : gap.start ≤ q.start
+-- After the held range r is freed, the range q can be held: its addresses are clear and below MAX. If it splits its gap, there is
+-- memory for that, and few ranges are held.
+pub record CanReplace (old : AddressState) (r q : Range) (HasMemory : Type 0) : Type 0 where
   pub some : q.start ≤ q.end
-  pub upto : q.end ≤ gap.end
   pub below : q.end < MAX
+  pub clear : (x : ℕ) → IsIn q x → IsClear (releasing r old) x
+  pub split : SplitsGap (releasing r old) q → HasMemory × (length old.held ≤ SPLIT_LIMIT_MIN_HELD)
 
--- The range to come is held beside the range r. So freeing r is left to do.
-pub record IsHeldBeside (old : AddressState) (r : Range) (begun : BegunMove) (mid : AddressState) : Type 0 where
-  pub held : mid ≡ holding begun.range old
-  pub some : begun.range.start ≤ begun.range.end
-  pub clear : (x : ℕ) → IsIn begun.range x → IsClear old x
-
--- The range to come is r, or lies in the gap that r leaves. If it splits this gap, there is memory for that, and few ranges are held.
-pub record IsToBeHeld (old : AddressState) (r : Range) (begun : BegunMove) (mid : AddressState) : Type 0 where
-  pub same : mid ≡ old
-  pub gap : Range
-  pub inside : IsInLeftGap old r gap begun.range
-  pub memory : begun.range ≢ r → begun.range ≢ gap → (begun.spare ≢ None) × (length old.held ≤ SPLIT_LIMIT_MIN_HELD)
-
--- A move of the held range r was begun in the state old, and led to the state mid.
+-- A move of the held range r was begun in the state old, and led to the state mid. Its range is held beside r, or can replace r.
 pub record IsBegun (old : AddressState) (r : Range) (begun : BegunMove) (mid : AddressState) : Type 0 where
   pub state : IsAddressState old
   pub held : Contains old.held r
-  pub beside : begun.is_allocated ≡ true → IsHeldBeside old r begun mid
-  pub inside : begun.is_allocated ≡ false → IsToBeHeld old r begun mid
+  pub some : begun.range.start ≤ begun.range.end
+  pub beside : begun.is_allocated ≡ true → (mid ≡ holding begun.range old) × ((x : ℕ) → IsIn begun.range x → IsClear old x)
+  pub inside : begun.is_allocated ≡ false → (mid ≡ old) × CanReplace old r begun.range (begun.range ≢ r → begun.spare ≢ None)
 
 -- The result of `begin_move`: the range of a move that will succeed, or the error of the move.
 abbrev pub BeginsMove : AddressState → Range → Request → Result BegunMove Error → AddressState → Type 0

@@ -1,4 +1,3 @@
-pub mod Multiples
 pub mod Blocks
 pub mod BlockList
 pub mod BlockEdits

@@ -21,8 +21,7 @@ ghost use Rattle.vm_addresses.specs.Held.{MakesSpace};
 ghost use Rattle.vm_ranges.specs.Cloning.{Clones};
 ghost use Rattle.vm_tree.specs.Shape.{blocks, height_of};
 ghost use Rattle.vm_tree.specs.Walks.{meeting_blocks};
-ghost use Rattle.vm_addresses.specs.Counts.GapSearch.{SearchesGaps, SearchesAligned};
-ghost use Rattle.vm_addresses.specs.Counts.Parts.{Allocating, Freeing, HasParts};
+ghost use Rattle.vm_addresses.specs.Counts.GapSearch.{SearchesGaps};
 ghost use Rattle.vm_addresses.specs.Counts.Steps.{EntersToAllocate, IsAllocationCount};
 ghost use Rattle.vm_addresses.specs.Tree.BalancedTree.{IsBalancedTreeOf};
 
@@ -248,9 +247,8 @@ impl AddressAllocator {
         // A request that fills its gap needs no memory, so it succeeds.
         ensures filling { (start : ℕ) → FillsGap (state_of self.old) request start → IsOk result }
 
-        // Each result under its exact condition. The tree is one that the counted call leaves.
+        // Each result under its exact condition.
         ensures answer { Allocates (state_of self.old) request result (state_of self.new) }
-        ensures part { (count : ℕ) × HasParts self.old (Allocating request result count ∷ []) self.new }
     {
         self.allocate_constraint_counted(alloc, request).0
     }
@@ -265,12 +263,9 @@ impl AddressAllocator {
     /// - at least 1 and at least h / 2 for a success.
     /// - 0 for `InvalidSize`, `InvalidAlignment` and `UnalignedAddress`.
     ///
-    /// A search enters a subtree only if one of its gaps is long enough and one has a multiple of
-    /// `alignment`. So `FirstMatch` and `LastMatch` enter at most h(v + 1) nodes, and at most hv if they
-    /// return `ResourceNotAvailable`. Here v is the lesser of two numbers:
-    /// - The gaps that are long enough but misaligned. This number is 0 if `alignment` is 1.
-    /// - The gaps that have a multiple of `alignment` but are too short after it. There are at most
-    ///   as many as multiples of `alignment` in the space.
+    /// `FirstMatch` and `LastMatch` enter at most h(v + 1) nodes, and at most hv if they return
+    /// `ResourceNotAvailable`. Here v is the number of gaps that are long enough but misaligned. It is 0 if
+    /// `alignment` is 1.
     ///
     /// # Errors
     ///
@@ -294,8 +289,6 @@ impl AddressAllocator {
         ensures steps { IsAllocationCount (height_of self.old) (state_of self.old)
             (request_for size alignment policy) result.0 result.1 }
         ensures search { SearchesGaps (height_of self.old) (state_of self.old)
-            (request_for size alignment policy) result.0 result.1 }
-        ensures search_aligned { SearchesAligned (height_of self.old) (state_of self.old)
             (request_for size alignment policy) result.0 result.1 }
     {
         match Constraint::new(size, alignment, policy) {
@@ -322,9 +315,8 @@ impl AddressAllocator {
         ensures unchanged { OnErr result (self.new ≡ self.old) }
         ensures state { IsAddressState (state_of self.new) }
 
-        // Each result under its exact condition. The tree is one that the counted call leaves.
+        // Each result under its exact condition.
         ensures answer { Frees (state_of self.old) key.now result (state_of self.new) }
-        ensures part { OnOk result ((count : ℕ) × HasParts self.old (Freeing key.now count ∷ []) self.new) }
     {
         self.free_counted(key).0
     }

@@ -48,7 +48,7 @@ use Rattle.vm_tree.specs.Shape.{Shape, Tip, Fork, blocks, height_of, node_count,
 use Rattle.vm_tree.specs.NodeCounts.{has_aligned, has_fit, has_fit_in, may_fit_in, nodes_of_both, nodes_of_search}
 use Rattle.vm_tree.specs.declared.end.End.{End}
 use Rattle.vm_tree.specs.declared.end.End.TheVariants.{First, Last}
-use Rattle.vm_tree.specs.GapSearch.{is_misaligned, is_too_short, on_part, parts_passing, gaps_without_place, IsWholeWindow, IsSearchCount}
+use Rattle.vm_tree.specs.GapSearch.{is_misaligned, on_part, parts_passing, gaps_without_place, IsWholeWindow, IsSearchCount}
 use Rattle.vm_tree.proofs.Trees.{full_some}
 use Rattle.vm_tree.proofs.Lists.{cut_tiles}
 
@@ -172,33 +172,11 @@ misaligned_in_long n a (b ∷ bs) z p e =
     (λ (k : n ≤ free_length b). omega (arith, split, long_is_misaligned n a b k none.0))
     (cases_lt (free_length b) n)
 
--- If a gap is aligned and nothing fits, a gap is too short.
-too_short_in_aligned : (n a : ℕ) (bs : List Block) → list_any (has_aligned a) bs ≡ true → list_any (has_fit n a) bs ≡ false →
-    1 ≤ length (filter (is_too_short n a) bs)
-unfolding is_too_short
-too_short_in_aligned n a [] p e = absurd (cc p)
-too_short_in_aligned n a (b ∷ bs) p e =
-    let none = or_parts (has_fit n a b) (list_any (has_fit n a) bs) e in
-    let split = among_append (is_too_short n a) (b ∷ []) bs in
-    elim (has_aligned a b) as (λ v. has_aligned a b ≡ v → 1 ≤ length (filter (is_too_short n a) (b ∷ bs))) [
-      | true ↦ λ f. let one : length (filter (is_too_short n a) (b ∷ [])) ≡ 1 = rw (f, none.0) refl in omega (arith, split)
-      | false ↦ λ f. omega (arith, split, too_short_in_aligned n a bs (rw f at p) none.1)
-    ] refl
-
--- Blocks that may have a fit have a gap that is long enough and one that is aligned.
-searched_parts : (n a : ℕ) (bs : List Block) → may_fit_in n a bs ≡ true → (n ≤ longest_gap bs) × (list_any (has_aligned a) bs ≡ true)
-unfolding may_fit_in
-searched_parts n a bs e =
-    let parts = and_parts (leb n (longest_gap bs)) (list_any (has_aligned a) bs) e in
-    (leb-true _ _ parts.0, parts.1)
-
 -- Blocks that are searched in vain have a misaligned gap.
 pub misaligned_in_vain : (n a : ℕ) → 0 < n → HasOneWithoutPlace n a (is_misaligned n a)
-misaligned_in_vain n a z bs k e = misaligned_in_long n a bs z (searched_parts n a bs k).0 e
-
--- Blocks that are searched in vain have a gap that is too short.
-pub too_short_in_vain : (n a : ℕ) → HasOneWithoutPlace n a (is_too_short n a)
-too_short_in_vain n a bs k e = too_short_in_aligned n a bs (searched_parts n a bs k).1 e
+unfolding may_fit_in
+misaligned_in_vain n a z bs k e =
+    misaligned_in_long n a bs z (leb-true _ _ (and_parts (leb n (longest_gap bs)) (list_any (has_aligned a) bs) k).0) e
 
 -- ---- A window
 module _ (w : Range) (n a : ℕ) (q : Block → Bool) where
@@ -508,18 +486,7 @@ module _ (w : Range) (n a : ℕ) (q : Block → Bool) (some : HasOneWithoutPlace
         all = search_all end w n a s;
       }
 
--- The bounds for two numbers are bounds for the lesser one.
-lesser : (w : Range) (n a u v : ℕ) (s : Shape) (count : ℕ) → IsSearchCount w n a u s count → IsSearchCount w n a v s count →
-    IsSearchCount w n a (min u v) s count
-lesser w n a u v s count g h =
-    ⊎_elim
-    (λ (l : u < v). let e : u ≡ min u v = omega arith in subst (λ (x : ℕ). IsSearchCount w n a x s count) e g)
-    (λ (l : v ≤ u). let e : v ≡ min u v = omega arith in subst (λ (x : ℕ). IsSearchCount w n a x s count) e h)
-    (cases_lt u v)
-
 -- The number of nodes is limited by the gaps without a place.
 pub all_searches : (end : End) (w : Range) (n a : ℕ) (s : Shape) → 0 < n → HasFullLeaves s → IsRun (blocks s) →
     IsSearchCount w n a (gaps_without_place w n a (blocks s)) s (nodes_of_search end w n a s)
-all_searches end w n a s z f h =
-    lesser w n a _ _ s _ (search_count w n a (is_misaligned n a) (misaligned_in_vain n a z) s f h end)
-    (search_count w n a (is_too_short n a) (too_short_in_vain n a) s f h end)
+all_searches end w n a s z f h = search_count w n a (is_misaligned n a) (misaligned_in_vain n a z) s f h end

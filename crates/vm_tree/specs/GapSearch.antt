@@ -1,5 +1,5 @@
--- The number of nodes that a search enters, by the number of gaps that look suitable but have no place.
-use Rattle.std.specs.Prelude.{◌≡◌, ℕ, ◌+◌, ◌*◌, ◌≤◌, ◌&&◌, not, nat_le, min, false, Bool, List, length}
+-- The number of nodes that a search enters, by the number of gaps that are long enough but have no place.
+use Rattle.std.specs.Prelude.{◌≡◌, ℕ, ◌+◌, ◌*◌, ◌≤◌, ◌&&◌, not, nat_le, false, Bool, List, length}
 use Rattle.std.specs.List.{filter, list_any}
 use Rattle.vm_ranges.specs.Range.{Range}
 use Rattle.vm_leaf.specs.declared.block.Block.{Block}
@@ -7,15 +7,11 @@ use Rattle.vm_leaf.specs.Block.{free_length}
 use Rattle.vm_leaf.specs.Blocks.{start_of, end_of}
 use Rattle.vm_leaf.specs.Windows.{cut_to}
 use Rattle.vm_tree.specs.Shape.{Shape, blocks, height_of, node_count}
-use Rattle.vm_tree.specs.NodeCounts.{has_aligned, has_fit, has_fit_in}
+use Rattle.vm_tree.specs.NodeCounts.{has_fit, has_fit_in}
 
 -- Tests if the block is a gap that is long enough for n addresses, but has no place for them at a multiple of a.
 unfoldable pub is_misaligned : ℕ → ℕ → Block → Bool
 is_misaligned n a b = nat_le n (free_length b) && not (has_fit n a b)
-
--- Tests if the block is a gap that has a multiple of a, but no place for n addresses at a multiple of a.
-unfoldable pub is_too_short : ℕ → ℕ → Block → Bool
-is_too_short n a b = has_aligned a b && not (has_fit n a b)
 
 -- Tests if the block has a part in the window w, and this part passes the test.
 abbrev pub on_part : Range → (Block → Bool) → Block → Bool
@@ -25,10 +21,9 @@ on_part w test b = nat_le (cut_to w b).key.start (cut_to w b).key.end && test (c
 abbrev pub parts_passing : Range → (Block → Bool) → List Block → ℕ
 parts_passing w test bs = length (filter (on_part w test) bs)
 
--- The number of gaps that look suitable but have no place: the lesser of the numbers of misaligned gaps and of gaps that are
--- too short. The parts of gaps in the window w count.
+-- The number of gaps that are long enough but have no place. The parts of gaps in the window w count.
 abbrev pub gaps_without_place : Range → ℕ → ℕ → List Block → ℕ
-gaps_without_place w n a bs = min (parts_passing w (is_misaligned n a) bs) (parts_passing w (is_too_short n a) bs)
+gaps_without_place w n a bs = parts_passing w (is_misaligned n a) bs
 
 -- The window has all addresses of the blocks.
 pub record IsWholeWindow (w : Range) (bs : List Block) : Type 0 where

@@ -1,8 +1,7 @@
 -- From the bounds on the nodes of a search to those by the gaps of the state without a place.
-use Rattle.std.proofs.Common.{◌≡◌, ℕ, ◌+◌, ◌*◌, ◌≤◌, min, Bool, true, false, cond, leb, List, [], ◌∷◌, length, refl, sym, ap, ◌∙◌, subst, arith, Option, Some, None, Result, Err}
+use Rattle.std.proofs.Common.{◌≡◌, ℕ, ◌+◌, ◌≤◌, Bool, true, false, cond, leb, List, [], ◌∷◌, length, refl, sym, ap, ◌∙◌, subst, arith, Option, Some, None, Result, Err}
 use Rattle.std.specs.Prelude.{◌&&◌}
 use Rattle.std.specs.List.{list_any, filter}
-use Rattle.std.proofs.Math.Nat.{mul-le-mul}
 use Rattle.std.proofs.lemmas.Bool.{le-leb}
 use Rattle.vm_ranges.specs.Range.{Range}
 use Rattle.vm_ranges.specs.Request.{Request}
@@ -16,11 +15,11 @@ use Rattle.vm_ranges.proofs.RangeCalls.{same_range}
 use Rattle.vm_leaf.specs.declared.block.Block.{Block}
 use Rattle.vm_leaf.specs.Blocks.{Tiles}
 use Rattle.vm_leaf.specs.Windows.{common, cut_to}
-use Rattle.vm_tree.specs.GapSearch.{is_misaligned, is_too_short, on_part, parts_passing, gaps_without_place, IsSearchCount}
+use Rattle.vm_tree.specs.GapSearch.{is_misaligned, on_part, parts_passing, gaps_without_place, IsSearchCount}
 use Rattle.vm_tree.specs.NodeCounts.{has_fit_in}
 use Rattle.vm_tree.specs.Shape.{Shape, blocks, height_of}
 use Rattle.vm_addresses.specs.Address.{AddressState}
-use Rattle.vm_addresses.specs.Counts.GapSearch.{misaligned_gaps, too_short_gaps, passing, SearchesAmongGaps, SearchesGaps, SearchesAligned}
+use Rattle.vm_addresses.specs.Counts.GapSearch.{misaligned_gaps, passing, SearchesAmongGaps, SearchesGaps}
 use Rattle.vm_addresses.specs.Tree.Blocks.{blocks_state, TilesSpace}
 use Rattle.vm_addresses.specs.Windows.{window_in}
 use Rattle.vm_addresses.proofs.Comparing.Tilings.{tiling_blocks}
@@ -68,17 +67,6 @@ module _ (sp : Range) (bs : List Block) (tiles : TilesSpace sp bs) (request : Re
   misaligned_are = passing_is request.window sp (is_misaligned request.size request.align) bs tiles
       ∙ ap (passing request.window (is_misaligned request.size request.align)) (sym (tiling_blocks sp bs tiles))
 
-  too_short_are : parts_passing (window_in request.window sp) (is_too_short request.size request.align) bs
-      ≡ too_short_gaps (blocks_state sp bs) request
-  unfolding too_short_gaps
-  too_short_are = passing_is request.window sp (is_too_short request.size request.align) bs tiles
-      ∙ ap (passing request.window (is_too_short request.size request.align)) (sym (tiling_blocks sp bs tiles))
-
-  gaps_are : gaps_without_place (window_in request.window sp) request.size request.align bs
-      ≡ min (misaligned_gaps (blocks_state sp bs) request) (too_short_gaps (blocks_state sp bs) request)
-  gaps_are = ap (λ v. min v (parts_passing (window_in request.window sp) (is_too_short request.size request.align) bs)) misaligned_are
-      ∙ ap (λ v. min (misaligned_gaps (blocks_state sp bs) request) v) too_short_are
-
 -- ---- The bounds
 among : (policy : AllocPolicy) (w : Option Range) (sp : Range) (n a v : ℕ) (s : Shape) (answer : Result Range Error) (count : ℕ) →
     TilesSpace sp (blocks s) → sp.start ≤ sp.end
@@ -100,45 +88,20 @@ pub searches : (request : Request) (sp : Range) (s : Shape) (answer : Result Ran
     (gaps_without_place (window_in request.window sp) request.size request.align (blocks s)) s count
     → (answer ≡ Err ResourceNotAvailable →
     list_any (has_fit_in (window_in request.window sp) request.size request.align) (blocks s) ≡ false) →
-    SearchesAligned (height_of s) (blocks_state sp (blocks s)) request answer count
-unfolding SearchesAligned
+    SearchesGaps (height_of s) (blocks_state sp (blocks s)) request answer count
+unfolding SearchesGaps
 searches request sp s answer count t l b none =
-    subst (λ (v : ℕ). SearchesAmongGaps (height_of s) v request answer count) (gaps_are sp (blocks s) t request)
+    subst (λ (v : ℕ). SearchesAmongGaps (height_of s) v request answer count) (misaligned_are sp (blocks s) t request)
     (among request.policy request.window sp request.size request.align _ s answer count t l b none)
 
 -- An ExactMatch request searches no gap.
 pub exact_searches : (request : Request) (t h : ℕ) (old : AddressState) (answer : Result Range Error) (count : ℕ) →
-    request.policy ≡ ExactMatch t → SearchesAligned h old request answer count
-unfolding SearchesAligned
-exact_searches request t h old answer count e = by_window request.window (min (misaligned_gaps old request) (too_short_gaps old request))
+    request.policy ≡ ExactMatch t → SearchesGaps h old request answer count
+unfolding SearchesGaps
+exact_searches request t h old answer count e = by_window request.window (misaligned_gaps old request)
   where
     by_window : (w : Option Range) (v : ℕ) → SearchesAmongGaps h v request answer count
     by_window w v = rw e tt
-
--- The bound for the lesser of two numbers is a bound for the first.
-more : (h v u : ℕ) (policy : AllocPolicy) (w : Option Range) (n a : ℕ) (answer : Result Range Error) (count : ℕ) → u ≤ v →
-    SearchesAmongGaps h u (request_in w n a policy) answer count → SearchesAmongGaps h v (request_in w n a policy) answer count
-more h v u policy w n a answer count l s =
-    let none : h * u ≤ h * v = mul-le-mul (omega arith) l in
-    let one : h * (u + 1) ≤ h * (v + 1) = mul-le-mul (omega arith) (omega arith) in
-    let two : h * (u + 2) ≤ h * (v + 2) = mul-le-mul (omega arith) (omega arith) in
-    by_policy policy w none one two s
-  where
-    by_policy : (policy : AllocPolicy) (w : Option Range) → h * u ≤ h * v → h * (u + 1) ≤ h * (v + 1) → h * (u + 2) ≤ h * (v + 2) →
-        SearchesAmongGaps h u (request_in w n a policy) answer count → SearchesAmongGaps h v (request_in w n a policy) answer count
-    by_policy FirstMatch None p q r s = record { most = omega (arith, s.most); none = λ e. omega (arith, s.none e) }
-    by_policy LastMatch None p q r s = record { most = omega (arith, s.most); none = λ e. omega (arith, s.none e) }
-    by_policy (ExactMatch t) None p q r s = tt
-    by_policy FirstMatch (Some w) p q r s = omega (arith, s)
-    by_policy LastMatch (Some w) p q r s = omega (arith, s)
-    by_policy (ExactMatch t) (Some w) p q r s = tt
-
-pub aligned_searches : (h : ℕ) (old : AddressState) (request : Request) (answer : Result Range Error) (count : ℕ) →
-    SearchesAligned h old request answer count → SearchesGaps h old request answer count
-unfolding SearchesAligned SearchesGaps
-aligned_searches h old request answer count s = more h (misaligned_gaps old request)
-    (min (misaligned_gaps old request) (too_short_gaps old request)) request.policy request.window request.size request.align answer count
-    (omega arith) s
 
 -- ---- Requests that can be invalid
 none_searched : (h v : ℕ) (policy : AllocPolicy) (w : Option Range) (n a : ℕ) (e : Error) →
@@ -154,9 +117,4 @@ pub invalid_search : (h : ℕ) (old : AddressState) (request : Request) (e : Err
 unfolding SearchesGaps
 invalid_search h old request e = none_searched h (misaligned_gaps old request) request.policy request.window request.size request.align e
 
-pub invalid_aligned : (h : ℕ) (old : AddressState) (request : Request) (e : Error) → SearchesAligned h old request (Err e) 0
-unfolding SearchesAligned
-invalid_aligned h old request e = none_searched h (min (misaligned_gaps old request) (too_short_gaps old request)) request.policy
-    request.window request.size request.align e
-
-pub ruleset refused = (allocates_refused, invalid_count, invalid_entered, invalid_search, invalid_aligned)
+pub ruleset refused = (allocates_refused, invalid_count, invalid_entered, invalid_search)

@@ -11,11 +11,11 @@ use Rattle.vm_ranges.specs.declared.constraint.AllocPolicy.{AllocPolicy}
 use Rattle.vm_ranges.specs.declared.constraint.AllocPolicy.TheVariants.{FirstMatch, LastMatch, ExactMatch}
 use Rattle.vm_leaf.specs.Block.{free_block}
 use Rattle.vm_leaf.specs.Fit.{HasNoFit, IsFit, IsLowestFit, IsHighestFit}
-use Rattle.vm_addresses.specs.Address.{AddressState, IsAddressState, IsClear, AreClear, IsPlace, IsLowestPlace, IsHighestPlace, holding, releasing}
+use Rattle.vm_addresses.specs.Address.{AddressState, IsAddressState, IsClear, AreClear, IsPlace, IsLowestPlace, IsHighestPlace, SplitsGap, holding, releasing}
 use Rattle.vm_addresses.specs.Answer.{IsChosen, ByStart, ByExactPolicy, ByPlace, AllocatesAt, Grants, Allocates}
 use Rattle.vm_addresses.specs.Windows.{part_in, within, window_in}
-use Rattle.vm_addresses.specs.Moves.{replacing, MovesRange, IsLeftGap, IsInLeftGap, IsBegun, BeginsMove}
-use Rattle.vm_addresses.specs.Checks.Moving.{BeginsInside, FindsStart, FindsPlaceIn, IsForCloser, part_for}
+use Rattle.vm_addresses.specs.Moves.{replacing, MovesRange, CanReplace, IsBegun, BeginsMove}
+use Rattle.vm_addresses.specs.Checks.Moving.{BeginsInside, FindsStart, FindsPlaceIn, IsForCloser, IsLeftGap, part_for}
 use Rattle.vm_addresses.specs.declared.address_allocator.moving.BegunMove.{BegunMove}
 use Rattle.vm_ranges.proofs.Decisions.{decided_in}
 use Rattle.vm_ranges.proofs.RangeCalls.{same_range}
@@ -23,7 +23,7 @@ use Rattle.vm_addresses.proofs.Blocks.PlainWords.{held_contains, contains_held, 
 use Rattle.vm_addresses.proofs.Blocks.HeldChanges.{held_without, others_held, not_held_without}
 use Rattle.vm_addresses.proofs.Moving.LeftGaps.{held_below}
 use Rattle.vm_addresses.proofs.Moving.LeftPlaces.{LieIn, place_parts, place_within, fit_parts, AreBeside, released_then, fit_or_place, fit_place, still_place, beside_allocates}
-use Rattle.vm_addresses.proofs.Moving.Inside.{one_less, grants_at, fails, succeeds}
+use Rattle.vm_addresses.proofs.Moving.Inside.{gap_is_filled, one_less, grants_at, fails, succeeds}
 use Rattle.vm_addresses.proofs.Moving.Places.{start_fits}
 use Rattle.vm_addresses.proofs.Results.Filling.{TakesBelowMax}
 use Rattle.vm_addresses.proofs.Results.Once.{chosen_place}
@@ -420,7 +420,8 @@ module _ (old : AddressState) (r : Range) (request : Request) (state : IsAddress
       record {
         state = state;
         held = held;
-        beside = λ _. record { held = g.1 ∙ ap (λ (v : Range). holding v old) e; some = there.0; clear = there.1 };
+        some = there.0;
+        beside = λ _. (g.1 ∙ ap (λ (v : Range). holding v old) e, there.1);
         inside = λ k. absurd (cc (is, k));
       })
       (λ l. absurd (cc (l.1)))
@@ -479,6 +480,16 @@ module _ (old : AddressState) (r gap : Range) (request : Request) (state : IsAdd
         grants_at counted request.policy request.window request.size request.align q.start (releasing r old) (released_then old r answer) answer
         valid.some (omega (arith, end, top, state.space)) chosen there
 
+    can_replace : (begun : BegunMove) → BeginsInside old r gap q (Ok begun) → CanReplace old r q (q ≢ r → begun.spare ≢ None)
+    can_replace begun h = record {
+      some = in_gap.1;
+      below = h.0;
+      clear = λ x i. left.clear x (omega (arith, in_gap.0, i.0), omega (arith, in_gap.2, i.1));
+      split = λ s.
+          let part : q ≢ gap = λ e. gap_is_filled old r gap left (subst (λ (v : Range). SplitsGap (releasing r old) v) e s) in
+          ((λ n. h.3 n part), h.4 part);
+    }
+
     inside_begins : (result : Result BegunMove Error) → IsChosen request (releasing r old) q.start → BeginsInside old r gap q result →
         BeginsMove old r request result old
     inside_begins (Err e) chosen h = moves_not old r request state held valid e
@@ -490,14 +501,9 @@ module _ (old : AddressState) (r gap : Range) (request : Request) (state : IsAdd
           record {
             state = state;
             held = held;
+            some = subst (λ (v : Range). v.start ≤ v.end) (sym same) in_gap.1;
             beside = λ k. absurd (cc (h.2, k));
-            inside = λ _. record {
-              same = refl;
-              gap = gap;
-              inside = subst (λ (v : Range). IsInLeftGap old r gap v) (sym same)
-                  (record { left = left; from = in_gap.0; some = in_gap.1; upto = in_gap.2; below = h.0 });
-              memory = λ m n. (h.3 (λ k. m (same ∙ k)) (λ k. n (same ∙ k)), h.4 (λ k. n (same ∙ k)));
-            };
+            inside = λ _. (refl, subst (λ (v : Range). CanReplace old r v (v ≢ r → begun.spare ≢ None)) (sym same) (can_replace begun h));
           },
         )
 

@@ -11,8 +11,7 @@ use Rattle.vm_ranges.specs.declared.constraint.AllocPolicy.{AllocPolicy}
 use Rattle.vm_ranges.specs.declared.constraint.AllocPolicy.TheVariants.{FirstMatch, LastMatch, ExactMatch}
 use Rattle.vm_addresses.specs.Address.{AddressState, AreClear, IsPlace, IsClear, SplitsGap, releasing, without_range}
 use Rattle.vm_addresses.specs.Answer.{IsChosen, ByStart, ByExactPolicy, ByPlace, AllocatesAt, Grants}
-use Rattle.vm_addresses.specs.Moves.{IsLeftGap}
-use Rattle.vm_addresses.specs.Checks.Moving.{BeginsInside}
+use Rattle.vm_addresses.specs.Checks.Moving.{BeginsInside, IsLeftGap}
 use Rattle.vm_addresses.specs.Windows.{within}
 use Rattle.vm_addresses.specs.declared.address_allocator.moving.BegunMove.{BegunMove}
 use Rattle.vm_addresses.proofs.Blocks.PlainWords.{IsHeld, held_contains}

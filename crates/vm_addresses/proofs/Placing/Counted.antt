@@ -21,8 +21,7 @@ use Rattle.vm_addresses.proofs.Placing.Places.{taken_from}
 use Rattle.vm_addresses.proofs.Placing.TakenRanges.{as_blocks, blocks_split}
 use Rattle.vm_addresses.proofs.Trees.CountedTrees.{TakesOne, length_with, taken_counted, taken_fits, gaps_left, gaps_fit}
 use Rattle.vm_addresses.proofs.Trees.Spaces.{state_of_tree}
-use Rattle.vm_addresses.proofs.Counts.GapSearches.{aligned_searches}
-use Rattle.vm_addresses.specs.Counts.GapSearch.{SearchesGaps, SearchesAligned}
+use Rattle.vm_addresses.specs.Counts.GapSearch.{SearchesGaps}
 use Rattle.vm_addresses.specs.Counts.NodeCounts.{nodes_of_request}
 use Rattle.vm_addresses.specs.Counts.Steps.{EntersToAllocate, IsAllocationCount, IsGrantCount}
 use Rattle.vm_addresses.proofs.Counts.Allocating.{entered_if_valid, valid_count}
@@ -92,7 +91,6 @@ pub record IsAnswered (s m : Shape) (can_split : Bool) (request : Request) (answ
   pub enters : EntersToAllocate s request count
   pub steps : IsAllocationCount (height_of s) (state_of s) request answer count
   pub search : SearchesGaps (height_of s) (state_of s) request answer count
-  pub search_aligned : SearchesAligned (height_of s) (state_of s) request answer count
 
 module _ (s m : Shape) (space : Range) (held gaps clear : ℕ) (can_split : Bool) (request : Request) (count : ℕ)
     (h : IsCountedTree s space held gaps clear) where
@@ -110,17 +108,14 @@ module _ (s m : Shape) (space : Range) (held gaps clear : ℕ) (can_split : Bool
 
     pub answered : IsRequest request → state_of m ≡ blocks_state space (blocks m) →
         IsAnswered s m can_split request (taken_range answer) count
-    answered v e =
-        let near = subst (λ (v : AddressState). SearchesAligned (height_of s) v request (taken_range answer) count) state_is a.search in
-        record {
-          grants = λ counted few. grants_if counted few e;
-          enters = entered_if_valid s request count v
-              (subst (λ (v : Range). count ≡ nodes_of_request request v s) h.is_space a.exact);
-          steps = valid_count (height_of s) (state_of s) request (taken_range answer) count v
-              (subst (λ (v : AddressState). IsGrantCount (height_of s) v request (taken_range answer) count) state_is a.steps);
-          search = aligned_searches (height_of s) (state_of s) request (taken_range answer) count near;
-          search_aligned = near;
-        }
+    answered v e = record {
+      grants = λ counted few. grants_if counted few e;
+      enters = entered_if_valid s request count v
+          (subst (λ (v : Range). count ≡ nodes_of_request request v s) h.is_space a.exact);
+      steps = valid_count (height_of s) (state_of s) request (taken_range answer) count v
+          (subst (λ (v : AddressState). IsGrantCount (height_of s) v request (taken_range answer) count) state_is a.steps);
+      search = subst (λ (v : AddressState). SearchesGaps (height_of s) v request (taken_range answer) count) state_is a.search;
+    }
 
   -- ---- An error
   module _ (e : Error) (a : IsAllocation request space can_split s m (Err e) count) where

@@ -68,7 +68,7 @@ use Rattle.vm_tree.proofs.Searched.{none_missed, none_closest}
 use Rattle.vm_tree.proofs.Heights.{high_tree_held}
 use Rattle.vm_addresses.specs.Address.{AddressState}
 use Rattle.vm_addresses.specs.Answer.{SPLIT_LIMIT_MIN_HELD, ByStart, ByExactPolicy, Grants}
-use Rattle.vm_addresses.specs.Counts.GapSearch.{SearchesAligned}
+use Rattle.vm_addresses.specs.Counts.GapSearch.{SearchesGaps}
 use Rattle.vm_addresses.specs.Counts.NodeCounts.{nodes_of_request, nodes_by_policy, is_looked_for, has_address}
 use Rattle.vm_addresses.specs.Counts.Steps.{max_entered, IsGrantCount}
 use Rattle.vm_addresses.specs.Tree.Allocation.{with_error, taken_range, IsSearchOf, Takes, IsAllocation}
@@ -182,7 +182,7 @@ module _ (sp : Range) (old new : Shape) (tiles : TilesSpace sp (blocks old)) (ra
       IfOk (with_error r found) (λ taken. Takes search.can_split request.size (blocks old) (blocks new) taken)
       → count ≡ nodes_of_request request sp old →
       IsGrantCount (height_of old) (blocks_state sp (blocks old)) request (taken_range (with_error r found)) count
-      → SearchesAligned (height_of old) (blocks_state sp (blocks old)) request (taken_range (with_error r found)) count →
+      → SearchesGaps (height_of old) (blocks_state sp (blocks old)) request (taken_range (with_error r found)) count →
       IsAllocation request sp search.can_split old new (with_error r found) count
   all_of g t e s a = record {
     granted = g;

@@ -98,15 +98,13 @@ whole_of failed stored outer reader none e w =
     (read.0.children.left, read.1.children.left, whole_keys stored read.0 read.1 (sym e ∙ w.0) w.1)
 
 module _ (States : Saved → AddressState → Type 0) (condition : Condition) (value : Result Stored SavedError) (failed : Option SavedError)
-    (stored : Stored) (is : stored_unless failed stored ≡ value) (none : failed ≡ None)
-    (reader : IsReader (stored_unless failed stored)) where
+    (stored : Stored) (is : stored_unless failed stored ≡ value) (none : failed ≡ None) where
   makes : (answer : Result AddressState SavedError) →
       ((nodes : NodesRead) → IsStoredFor stored nodes → ReadsParts (IsWholeTree States nodes) condition answer) →
       MakesOfNodes States condition value answer
   makes answer reads =
       let ok : Ok stored ≡ value = ap (λ (f : Option SavedError). stored_unless f stored) (sym none) ∙ is in
-      subst (λ (v : Result Stored SavedError). MakesOfNodes States condition v answer) ok
-      (subst (λ (f : Option SavedError). IsReader (stored_unless f stored)) none reader, reads)
+      subst (λ (v : Result Stored SavedError). MakesOfNodes States condition v answer) ok reads
 
   no_whole : (outer : List Children) → outer ≡ stored.outer → ¬ ((outer ≡ []) × (stored.children.right ≡ None)) →
       MakesOfNodes States condition value (Err (saved.Violated condition))
@@ -138,11 +136,11 @@ whole_in failed held root nested seen reader none e w =
 
 module _ (States : Saved → AddressState → Type 0) (condition : Condition) (value : Result Stored SavedError) (failed : Option SavedError)
     (held : List Range) (root : Children) (nested : List Children) (is : stored_unless failed (stored_in held root nested) ≡ value)
-    (none : failed ≡ None) (reader : IsReader (stored_unless failed (stored_in held root nested))) (seen : List Children)
+    (none : failed ≡ None) (seen : List Children)
     (e : seen ≡ nested) where
   pub makes_none : ¬ ((seen ≡ []) × (root.right ≡ None)) → MakesOfNodes States condition value (Err (saved.Violated condition))
   makes_none absent =
-      no_whole States condition value failed (stored_in held root nested) is none reader (around root nested) refl
+      no_whole States condition value failed (stored_in held root nested) is none (around root nested) refl
       (λ w.
       let empty = none_around root nested w.0 in
       absent (e ∙ empty, subst (λ (v : List Children). (innermost root v).right ≡ None) empty w.1))
@@ -153,5 +151,4 @@ module _ (States : Saved → AddressState → Type 0) (condition : Condition) (v
   makes_whole answer w reads =
       let empty = sym e ∙ w.0 in
       one_whole States condition value failed (stored_in held root [])
-      (subst (λ (v : List Children). stored_unless failed (stored_in held root v) ≡ value) empty is) none
-      (subst (λ (v : List Children). IsReader (stored_unless failed (stored_in held root v))) empty reader) [] answer refl (refl, w.1) reads
+      (subst (λ (v : List Children). stored_unless failed (stored_in held root v) ≡ value) empty is) none [] answer refl (refl, w.1) reads

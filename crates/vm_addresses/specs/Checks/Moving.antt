@@ -1,7 +1,7 @@
 -- The steps of a move. Only private functions cite these definitions.
 use Rattle.std.specs.Prelude.{◌≡◌, ◌≢◌, ℕ, ◌+◌, ◌-◌, ◌<◌, ◌≤◌, false, length, Option, Some, None, Result, Ok, Err}
 use Rattle.vm_ranges.specs.Cases.{IfElse}
-use Rattle.vm_ranges.specs.Range.{Range, MAX, span}
+use Rattle.vm_ranges.specs.Range.{Range, MAX, IsIn, span}
 use Rattle.vm_ranges.specs.Request.{Request, ByPolicy}
 use Rattle.vm_leaf.specs.declared.block.Block.{Block}
 use Rattle.vm_leaf.specs.Block.{free_block}
@@ -12,6 +12,14 @@ use Rattle.vm_addresses.specs.Windows.{part_in, window_in}
 use Rattle.vm_addresses.specs.declared.address_allocator.moving.BegunMove.{BegunMove}
 use Rattle.vm_ranges.specs.declared.error.Error.{Error}
 use Rattle.vm_ranges.specs.declared.error.Error.TheVariants.{Overflow, OutOfMemory}
+
+-- The gap that the held range r leaves when it is freed.
+pub record IsLeftGap (old : AddressState) (r gap : Range) : Type 0 where
+  pub from : gap.start ≤ r.start
+  pub upto : r.end ≤ gap.end
+  pub clear : (x : ℕ) → IsIn gap x → IsClear (releasing r old) x
+  pub before : (x : ℕ) → x + 1 ≡ gap.start → ¬ IsClear (releasing r old) x
+  pub after : ¬ IsClear (releasing r old) (gap.end + 1)
 
 -- The result of beginning a move to the range q in the gap that r leaves. An error is one of the end of q, or of a split.
 abbrev pub BeginsInside : AddressState → Range → Range → Range → Result BegunMove Error → Type 0

@@ -1,7 +1,7 @@
--- The number of nodes that a search enters, by the number of gaps that look suitable but have no place.
+-- The number of nodes that a search enters, by the number of gaps that are long enough but have no place.
 --
 -- Gaps are counted by tests over the blocks of the state. A law in specs/Laws shows that each test is exact.
-use Rattle.std.specs.Prelude.{◌≡◌, ℕ, ◌+◌, ◌*◌, ◌≤◌, min, Bool, List, length, Option, Some, None, MatchOption, Result, Err}
+use Rattle.std.specs.Prelude.{◌≡◌, ℕ, ◌+◌, ◌*◌, ◌≤◌, Bool, List, length, Option, Some, None, MatchOption, Result, Err}
 use Rattle.std.specs.List.{filter}
 use Rattle.vm_ranges.specs.Range.{Range}
 use Rattle.vm_leaf.specs.declared.block.Block.{Block}
@@ -10,7 +10,7 @@ use Rattle.vm_addresses.specs.Tree.Blocks.{blocks_of}
 use Rattle.vm_ranges.specs.Request.{Request, ByPolicy}
 use Rattle.vm_ranges.specs.declared.error.Error.{Error}
 use Rattle.vm_ranges.specs.declared.error.Error.TheVariants.{ResourceNotAvailable}
-use Rattle.vm_tree.specs.GapSearch.{is_misaligned, is_too_short, on_part}
+use Rattle.vm_tree.specs.GapSearch.{is_misaligned, on_part}
 
 -- The number of misaligned gaps in a list of blocks.
 abbrev pub misaligned_among : ℕ → ℕ → List Block → ℕ
@@ -25,11 +25,6 @@ passing (Some w) test bs = length (filter (on_part w test) bs)
 -- gaps.
 unfoldable pub misaligned_gaps : AddressState → Request → ℕ
 misaligned_gaps state request = passing request.window (is_misaligned request.size request.align) (blocks_of state)
-
--- The number of gaps of a state that have a multiple of a request's alignment, but no place for it. A window counts the
--- parts of gaps.
-unfoldable pub too_short_gaps : AddressState → Request → ℕ
-too_short_gaps state request = passing request.window (is_too_short request.size request.align) (blocks_of state)
 
 -- The bound on the nodes that a request enters in a tree of height h with v gaps without a place: at most h nodes for each of
 -- these gaps, and the path to the place that is found.
@@ -50,8 +45,3 @@ SearchesAmongGaps h v request answer count =
 -- The bound is true for the number of misaligned gaps.
 unfoldable pub SearchesGaps : ℕ → AddressState → Request → Result Range Error → ℕ → Type 0
 SearchesGaps h old request answer count = SearchesAmongGaps h (misaligned_gaps old request) request answer count
-
--- The bound is true for the lesser of two numbers: the misaligned gaps, and the gaps that are too short.
-unfoldable pub SearchesAligned : ℕ → AddressState → Request → Result Range Error → ℕ → Type 0
-SearchesAligned h old request answer count =
-    SearchesAmongGaps h (min (misaligned_gaps old request) (too_short_gaps old request)) request answer count

@@ -6,17 +6,12 @@ use Rattle.vm_addresses.specs.Address.{AddressState, IsClear, IsAddressState}
 use Rattle.vm_leaf.specs.declared.block.Block.{Block}
 use Rattle.vm_leaf.specs.Block.{free_length}
 use Rattle.vm_leaf.specs.Fit.{HasNoFit}
-use Rattle.vm_ranges.specs.Alignment.{IsAlignment}
-use Rattle.vm_tree.specs.GapSearch.{is_misaligned, is_too_short}
-use Rattle.vm_addresses.specs.Counts.GapSearch.{misaligned_gaps, too_short_gaps}
-use Rattle.vm_leaf.specs.Multiples.{HasMultiple}
-use Rattle.vm_addresses.specs.Tree.Multiples.{multiples_in}
+use Rattle.vm_tree.specs.GapSearch.{is_misaligned}
+use Rattle.vm_addresses.specs.Counts.GapSearch.{misaligned_gaps}
 use Rattle.vm_ranges.specs.Request.{Request}
-use Rattle.vm_addresses.specs.Windows.{within}
 use Rattle.vm_addresses.specs.Answer.{Allocates, Frees, Makes}
 use Rattle.vm_ranges.specs.declared.error.Error.{Error}
 use Rattle.vm_ranges.specs.declared.error.Error.TheVariants.{OutOfMemory}
-use Rattle.vm_ranges.specs.declared.state.NodeState.TheVariants.{Free}
 
 -- Two results and the states after them are equal, unless one of the results is OutOfMemory.
 abbrev pub AgreeUnlessMemory : {A S : Type 0} → Result A Error → S → Result A Error → S → Type 0
@@ -100,16 +95,3 @@ CountFindsAll =
     (state : AddressState) (list : List Range) → IsAddressState state →
     AllPairs (λ r s. r ≢ s) list → All (Contains state.held) list →
     (length list ≡ length state.held) ↔ ((r : Range) → Contains state.held r → Contains list r)
-
--- The test `is_too_short` is exact: the gap has a multiple of the alignment, but no fit for n addresses.
-abbrev pub TooShortIsExact : Type 0
-TooShortIsExact =
-    (n a : ℕ) (b : Block) → 0 < a →
-    (is_too_short n a b ≡ true) ↔ ((b.state ≡ Free) × HasMultiple a b.key × HasNoFit n a b)
-
--- There are at most as many gaps that are too short as multiples of the alignment in the space. In a window, there are at
--- most as many parts of gaps as multiples in the window and the space.
-abbrev pub TooShortAreFew : Type 0
-TooShortAreFew =
-    (state : AddressState) (request : Request) → IsAddressState state → IsAlignment request.align →
-    too_short_gaps state request ≤ multiples_in request.align (within request.window state).space

@@ -1,16 +1,14 @@
 -- Laws of the nodes that calls enter.
-use Rattle.std.specs.Prelude.{ℕ, ◌+◌, ◌*◌, ◌≤◌, List, length, Result, ◌≡◌}
-use Rattle.std.specs.List.{All, Contains}
+use Rattle.std.specs.Prelude.{ℕ, ◌+◌, ◌*◌, ◌≤◌, Result, ◌≡◌}
+use Rattle.std.specs.List.{Contains}
 use Rattle.vm_ranges.specs.Range.{Range}
 use Rattle.vm_ranges.specs.Request.{Request}
 use Rattle.vm_ranges.specs.declared.error.Error.{Error}
 use Rattle.vm_ranges.specs.declared.constraint.AllocPolicy.TheVariants.{FirstMatch, LastMatch, ExactMatch}
-use Rattle.vm_tree.specs.Fibonacci.{fibonacci}
 use Rattle.vm_tree.specs.NodeCounts.{nodes_to_address, nodes_to_free}
 use Rattle.vm_tree.specs.Roots.{IsBlockTree}
 use Rattle.vm_tree.specs.Shape.{Shape, height_of}
 use Rattle.vm_addresses.specs.Counts.GapSearch.{IsGapSearchCount, IsWindowSearchCount}
-use Rattle.vm_addresses.specs.Counts.Parts.{TakesParts, EntersAtMost}
 use Rattle.vm_addresses.specs.Counts.Steps.{max_entered, IsFreeCount, EntersToAllocate}
 use Rattle.vm_addresses.specs.Allocator.{state_of}
 
@@ -35,11 +33,3 @@ abbrev pub FreeEntersPath : Type 0
 FreeEntersPath =
     (s : Shape) (key : Range) → IsBlockTree s → Contains (state_of s).held key →
     nodes_to_address key.start s ≤ nodes_to_free key s
-
--- Each of n parts enters few nodes. Let k be n more than the number of ranges that are held before them. Then each part enters
--- at most as many nodes as in a tree of height h with k held ranges, for a height h that is logarithmic in k.
-abbrev pub PartsEnterFew : Type 0
-PartsEnterFew =
-    (n : ℕ) (old new : Shape) (requests : List Request) (taken : TakesParts n old requests new) →
-    let k : ℕ = length (state_of old).held + n in
-    (h : ℕ) × (fibonacci (h + 2) ≤ 2 * k + 2) × All (EntersAtMost h k) taken.parts

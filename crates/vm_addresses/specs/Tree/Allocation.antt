@@ -14,7 +14,7 @@ use Rattle.vm_tree.specs.declared.search.Taken.{Taken}
 use Rattle.vm_tree.specs.declared.search.Refusal.{Refusal}
 use Rattle.vm_tree.specs.declared.search.Refusal.TheVariants.{NoPlace, Held, PastMax, OutOfMemory as NoMemory, CannotSplit}
 use Rattle.vm_addresses.specs.Answer.{SPLIT_LIMIT_MIN_HELD, Grants}
-use Rattle.vm_addresses.specs.Counts.GapSearch.{SearchesAligned}
+use Rattle.vm_addresses.specs.Counts.GapSearch.{SearchesGaps}
 use Rattle.vm_addresses.specs.Counts.NodeCounts.{nodes_of_request}
 use Rattle.vm_addresses.specs.Counts.Steps.{IsGrantCount}
 use Rattle.vm_addresses.specs.Tree.Blocks.{blocks_state}
@@ -68,4 +68,4 @@ pub record IsAllocation (request : Request) (space : Range) (can_split : Bool) (
   pub unchanged : OnErr answer (new ≡ old)
   pub exact : count ≡ nodes_of_request request space old
   pub steps : IsGrantCount (height_of old) (blocks_state space (blocks old)) request (taken_range answer) count
-  pub search : SearchesAligned (height_of old) (blocks_state space (blocks old)) request (taken_range answer) count
+  pub search : SearchesGaps (height_of old) (blocks_state space (blocks old)) request (taken_range answer) count

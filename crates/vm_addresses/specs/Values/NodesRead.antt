@@ -187,6 +187,5 @@ IsWholeTree States nodes state = (t : Saved) × (nodes ≡ whole t) × States t 
 -- tree. An error of the reader is returned. Other nodes can be stored as the same values: the result is correct for all of them.
 abbrev pub MakesOfNodes : (Saved → AddressState → Type 0) → Condition → Result Stored SavedError → Result AddressState SavedError → Type 0
 MakesOfNodes States condition (Ok stored) answer =
-    ((nodes : NodesRead) × IsStoredFor stored nodes)
-    × ((nodes : NodesRead) → IsStoredFor stored nodes → ReadsParts (IsWholeTree States nodes) condition answer)
+    (nodes : NodesRead) → IsStoredFor stored nodes → ReadsParts (IsWholeTree States nodes) condition answer
 MakesOfNodes States condition (Err e) answer = answer ≡ Err e

@@ -8,9 +8,8 @@ ghost use Rattle.vm_tree.specs.Roots.{IsBlockTree};
 ghost use Rattle.vm_tree.specs.Shape.{blocks, height_of};
 ghost use Rattle.vm_addresses.specs.Address.{IsAddressState};
 ghost use Rattle.vm_addresses.specs.Answer.{SPLIT_LIMIT_MIN_HELD, Grants, Allocates, FillsGap};
-ghost use Rattle.vm_addresses.specs.Counts.GapSearch.{SearchesGaps, SearchesAligned};
+ghost use Rattle.vm_addresses.specs.Counts.GapSearch.{SearchesGaps};
 ghost use Rattle.vm_addresses.specs.Counts.Steps.{EntersToAllocate, IsAllocationCount};
-ghost use Rattle.vm_addresses.specs.Tree.BalancedTree.{IsBalancedTreeOf};
 ghost use Rattle.vm_addresses.specs.Tree.Allocation.{with_error, IsSearchOf, IsAllocation};
 ghost use Rattle.vm_addresses.specs.Tree.Blocks.{IsTiling, held_of};
 ghost use Rattle.vm_addresses.specs.Allocator.{state_of};
@@ -32,8 +31,8 @@ impl AddressAllocator {
     /// window, the count is
     /// - at most h for `ExactMatch`.
     /// - at most 2k + 1 for `FirstMatch` and `LastMatch`.
-    /// - at most h(v + 2) for these two. Here v is the lesser of the two numbers of `allocate_counted`,
-    ///   of the parts of the gaps in the window.
+    /// - at most h(v + 2) for these two. Here v is the number of parts of gaps in the window that are long
+    ///   enough but misaligned.
     ///
     /// # Errors
     ///
@@ -44,7 +43,6 @@ impl AddressAllocator {
         alloc: Global,
         request: Constraint,
     ) -> (Result<RangeInclusive>, u64)
-        ensures balanced { IsBalancedTreeOf (state_of self.old) self.old }
         ensures answer { Allocates (state_of self.old) request result.0 (state_of self.new) }
         ensures unchanged { OnErr result.0 (self.new ≡ self.old) }
 
@@ -52,8 +50,7 @@ impl AddressAllocator {
         ensures filling { (start : ℕ) → FillsGap (state_of self.old) request start → IsOk result.0 }
         ensures count { EntersToAllocate self.old request result.1 }
         ensures steps { IsAllocationCount (height_of self.old) (state_of self.old) request result.0 result.1 }
-        ensures search { SearchesGaps (height_of self.old) (state_of self.old) request result.0 result.1
-            × SearchesAligned (height_of self.old) (state_of self.old) request result.0 result.1 }
+        ensures search { SearchesGaps (height_of self.old) (state_of self.old) request result.0 result.1 }
         ensures state { IsAddressState (state_of self.new) }
     {
         let can_split = self.held_count < SPLIT_LIMIT;
@@ -78,9 +75,8 @@ impl AddressAllocator {
         ensures unchanged { OnErr result.0 (self.new ≡ self.old) }
         ensures count { EntersToAllocate self.old request result.1
             × IsAllocationCount (height_of self.old) (state_of self.old) request result.0 result.1 }
-        ensures search { SearchesGaps (height_of self.old) (state_of self.old) request result.0 result.1
-            × SearchesAligned (height_of self.old) (state_of self.old) request result.0 result.1 }
-        ensures tree { IsBalancedTreeOf (state_of self.old) self.old × IsAddressState (state_of self.new) }
+        ensures search { SearchesGaps (height_of self.old) (state_of self.old) request result.0 result.1 }
+        ensures state { IsAddressState (state_of self.new) }
     {
         let mut count = Steps::new();
         let (tree, space) = (&mut self.tree, &self.space);
@@ -111,7 +107,6 @@ fn allocate_in(
     requires tiling { IsTiling space.now (blocks tree.old) }
     requires few { can_split ≡ true → length (held_of (blocks tree.old)) ≤ SPLIT_LIMIT_MIN_HELD }
     requires count { count.old ≡ 0 }
-    ensures low { IsBlockTree tree.old }
     ensures valid { IsRequest constraint.now }
     ensures answer { IsAllocation constraint.now space.now can_split tree.old tree.new result count.new }
     ensures memory { (t : ℕ) → constraint.now.policy ≡ ExactMatch t → spare.old ≢ None

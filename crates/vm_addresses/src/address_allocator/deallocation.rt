@@ -1,9 +1,8 @@
 //! Frees an allocated range.
-ghost use Rattle.std.specs.Prelude.{◌≡◌, OnErr, OnOk};
+ghost use Rattle.std.specs.Prelude.{◌≡◌, OnErr};
 ghost use Rattle.vm_addresses.specs.Address.{IsAddressState};
 ghost use Rattle.vm_addresses.specs.Answer.{Frees};
 ghost use Rattle.vm_addresses.specs.Counts.Steps.{IsFreeCount};
-ghost use Rattle.vm_addresses.specs.Tree.BalancedTree.{IsBalancedTreeOf};
 ghost use Rattle.vm_addresses.specs.Allocator.{state_of};
 
 use super::AddressAllocator;
@@ -22,7 +21,6 @@ impl AddressAllocator {
     /// Those of [`free`](Self::free).
     #[tactic(auto, using(crate::proofs::Trees::Freeing::freeing))]
     pub fn free_counted(&mut self, key: &RangeInclusive) -> (Result<()>, u64)
-        ensures balanced { OnOk result.0 (IsBalancedTreeOf (state_of self.old) self.old) }
         ensures answer { Frees (state_of self.old) key.now result.0 (state_of self.new) }
         ensures unchanged { OnErr result.0 (self.new ≡ self.old) }
         ensures steps { IsFreeCount self.old key.now result.0 result.1 }

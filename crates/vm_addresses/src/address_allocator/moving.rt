@@ -12,12 +12,12 @@ ghost use Rattle.vm_ranges.specs.Request.{Request, IsRequest};
 ghost use Rattle.vm_ranges.specs.declared.constraint.AllocPolicy.TheVariants.{ExactMatch};
 ghost use Rattle.vm_addresses.specs.Address.{AddressState, IsAddressState};
 ghost use Rattle.vm_addresses.specs.Answer.{SPLIT_LIMIT_MIN_HELD, Grants};
-ghost use Rattle.vm_addresses.specs.Counts.Parts.{Allocating, HasParts, TakesParts};
 ghost use Rattle.vm_addresses.specs.Allocator.{state_of};
 ghost use Rattle.vm_addresses.specs.Windows.{part_in};
 ghost use Rattle.vm_leaf.specs.Block.{free_block};
-ghost use Rattle.vm_addresses.specs.Moves.{request_to, replacing, MovesRange, IsLeftGap, IsInLeftGap, IsBegun, BeginsMove};
+ghost use Rattle.vm_addresses.specs.Moves.{request_to, replacing, MovesRange, CanReplace, IsBegun, BeginsMove};
 ghost use Rattle.vm_addresses.specs.Checks.Moving.{
+  IsLeftGap,
   IsLeftStart,
   IsLeftEnd,
   FindsStart,
@@ -77,7 +77,7 @@ impl AddressAllocator {
     /// - `ResourceNotAvailable` if exactly the range `key` is not allocated.
     /// - The errors of [`allocate_constraint`](Self::allocate_constraint) if `key` is free, in the same
     ///   order.
-    #[tactic(auto, using(crate::proofs::Results::Moves::moves, crate::proofs::Counts::TakenParts::taken))]
+    #[tactic(auto, using(crate::proofs::Results::Moves::moves))]
     pub fn move_constraint(
         &mut self,
         alloc: Global,
@@ -95,9 +95,8 @@ impl AddressAllocator {
         // A range that is not held cannot be moved.
         ensures refused { ¬ Contains (state_of self.old).held key.now → result ≡ Err Error.ResourceNotAvailable }
 
-        // Each result under its exact condition. The tree comes from at most two allocations and a free.
+        // Each result under its exact condition.
         ensures answer { MovesRange (state_of self.old) key.now request result (state_of self.new) }
-        ensures parts { TakesParts 3 self.old (request ∷ []) self.new }
     {
         let begun = self.begin_move(alloc, key, request)?;
         let range = begun.range;
@@ -158,7 +157,7 @@ impl AddressAllocator {
     ///
     /// Those of [`move_constraint`](Self::move_constraint), in the same order. An error changes nothing, and
     /// leaves the same tree.
-    #[tactic(auto, using(crate::proofs::Results::Moves::move_refused, crate::proofs::Counts::TakenParts::taken, crate::proofs::Trees::Spaces::states))]
+    #[tactic(auto, using(crate::proofs::Results::Moves::move_refused, crate::proofs::Trees::Spaces::states))]
     pub fn begin_move(
         &mut self,
         alloc: Global,
@@ -167,7 +166,6 @@ impl AddressAllocator {
     ) -> Result<BegunMove>
         ensures answer { BeginsMove (state_of self.old) key.now request result (state_of self.new) }
         ensures unchanged { OnErr result (self.new ≡ self.old) }
-        ensures parts { TakesParts 1 self.old (request ∷ []) self.new }
     {
         // Proof: this shows that the tree is valid.
         let _tree = &self.tree;
@@ -187,7 +185,6 @@ impl AddressAllocator {
         requires { (old : AddressState) × IsBegun old key.now begun (state_of self.old) }
         ensures moved { (old : AddressState) → IsBegun old key.now begun (state_of self.old)
             → state_of self.new ≡ replacing key.now begun.range old }
-        ensures parts { (request : Request) → TakesParts 2 self.old (request ∷ []) self.new }
     {
         if begun.is_allocated {
             // An allocated range is always freed.
@@ -205,7 +202,6 @@ impl AddressAllocator {
         requires { (old : AddressState) × (r : Range) × IsBegun old r begun (state_of self.old) }
         ensures same { (old : AddressState) (r : Range) → IsBegun old r begun (state_of self.old)
             → state_of self.new ≡ old }
-        ensures parts { TakesParts 1 self.old [] self.new }
     {
         if begun.is_allocated {
             // An allocated range is always freed.
@@ -226,7 +222,6 @@ impl AddressAllocator {
         requires none { (gap : Range) × IsLeftGap (state_of self.old) key.now gap × FindsPlaceIn gap request None }
         ensures answer { BeginsMove (state_of self.old) key.now request result (state_of self.new) }
         ensures unchanged { OnErr result (self.new ≡ self.old) }
-        ensures parts { TakesParts 1 self.old (request ∷ []) self.new }
     {
         if asks_for(key, request) {
             // The range lies outside the window.
@@ -253,7 +248,6 @@ impl AddressAllocator {
         requires valid { IsRequest request }
         ensures answer { BeginsMove (state_of self.old) key.now request result (state_of self.new) }
         ensures unchanged { OnErr result (self.new ≡ self.old) }
-        ensures parts { TakesParts 1 self.old (request ∷ []) self.new }
     {
         let Some(closer) = closer_than(&range, &self.space, request) else {
             return self.begin_inside(alloc, key, gap, range);
@@ -305,14 +299,12 @@ impl AddressAllocator {
         ensures grants { Grants (length (state_of self.old).held - 1) (state_of self.old) request result
             (state_of self.new) }
         ensures unchanged { OnErr result (self.new ≡ self.old) }
-        ensures part { (count : ℕ) × HasParts self.old (Allocating request result count ∷ []) self.new }
     {
         let can_split = self.held_count <= SPLIT_LIMIT;
         self.allocate_with(&mut None, alloc, request, can_split).0
     }
 
     /// Frees `key`, and allocates `range` in the gap that it leaves.
-    #[tactic(auto, using(crate::proofs::Counts::TakenParts::taken))]
     fn replace(
         &mut self,
         alloc: Global,
@@ -321,10 +313,8 @@ impl AddressAllocator {
         spare: &mut Option<Spare>,
     )
         requires held { Contains (state_of self.old).held key.now }
-        requires inside { (gap : Range) × IsInLeftGap (state_of self.old) key.now gap range
-            × (range ≢ gap → (spare.old ≢ None) × (length (state_of self.old).held ≤ SPLIT_LIMIT_MIN_HELD)) }
+        requires inside { CanReplace (state_of self.old) key.now range (spare.old ≢ None) }
         ensures moved { state_of self.new ≡ replacing key.now range (state_of self.old) }
-        ensures parts { (request : Request) → TakesParts 2 self.old (request ∷ []) self.new }
     {
         // An allocated range is always freed.
         let _ = self.free(key);

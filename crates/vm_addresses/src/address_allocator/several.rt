@@ -2,7 +2,6 @@
 ghost use Rattle.std.specs.Prelude.{◌≡◌, ℕ, ◌+◌, ◌*◌, List, length, IfErr, MatchResult};
 ghost use Rattle.vm_ranges.specs.Request.{Request};
 ghost use Rattle.vm_addresses.specs.Address.{AddressState, IsAddressState};
-ghost use Rattle.vm_addresses.specs.Counts.Parts.{TakesParts};
 ghost use Rattle.vm_tree.specs.Shape.{Shape};
 ghost use Rattle.vm_addresses.specs.Allocator.{state_of};
 ghost use Rattle.vm_addresses.specs.Allocator.{state_of};
@@ -35,7 +34,6 @@ impl AddressAllocator {
             (λ failure. FailsAll (state_of self.old) requests.now failure.error (state_of self.new)) }
         ensures failed { IfErr result (λ failure.
             FailsAsNamed self.old requests.now failure self.new) }
-        ensures parts { TakesParts (2 * length requests.now) self.old requests.now self.new }
         ensures state { IsAddressState (state_of self.new) }
     {
         // Proof: this shows that the tree is valid.
@@ -66,8 +64,6 @@ fn free_all(allocator: &mut AddressAllocator, ranges: &mut Vec<RangeInclusive>)
     ensures state { (before : AddressState) (requests : List Request) → IsAddressState before
         → AllocatesEach before requests ranges.old.items (state_of allocator.old)
         → state_of allocator.new ≡ before }
-    ensures parts { (n : ℕ) (before : Shape) (requests : List Request) → TakesParts n before requests allocator.old
-        → TakesParts (n + length ranges.old.items) before requests allocator.new }
 {
     while let Some(range) = ranges.pop() {
         let _ = allocator.free(&range);

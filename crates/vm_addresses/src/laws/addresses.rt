@@ -10,10 +10,8 @@ ghost use Rattle.vm_addresses.specs.Laws.AddressLaws.{
   MisalignedIsExact,
   NoneIsMisalignedAtOne,
   CountFindsAll,
-  TooShortIsExact,
-  TooShortAreFew,
 };
-ghost use Rattle.vm_addresses.specs.Laws.CountLaws.{EntersFew, CountsAreDecided, FreeEntersPath, PartsEnterFew};
+ghost use Rattle.vm_addresses.specs.Laws.CountLaws.{EntersFew, CountsAreDecided, FreeEntersPath};
 
 /// States that an allocation has one result and one next state, unless memory runs out.
 #[tactic(auto, using(crate::proofs::Results::Once::allocates_once))]
@@ -60,14 +58,6 @@ fn counts_find_all()
     ensures { CountFindsAll }
 {}
 
-/// States that the test for gaps that are too short is exact. There are at most as many of them as
-/// multiples of the alignment in the space.
-#[tactic(auto, using(crate::proofs::Counts::TooShortGaps::too_short))]
-fn too_short_gaps_are_exact()
-    ensures exact { TooShortIsExact }
-    ensures few { TooShortAreFew }
-{}
-
 /// States the most nodes that a call enters in a tree of height h: 3h for `free`, h for `ExactMatch`, and
 /// h for each gap that a search enters.
 #[tactic(auto, using(crate::proofs::Counts::SimpleBounds::simple_bounds))]
@@ -86,9 +76,4 @@ fn counts_are_decided()
 #[tactic(auto, using(crate::proofs::Counts::SimpleBounds::path))]
 fn free_enters_path()
     ensures { FreeEntersPath }
-{}
-
-/// States that a call that is made of n allocations and frees enters few nodes in each of them.
-fn parts_enter_few()
-    ensures { PartsEnterFew }
 {}

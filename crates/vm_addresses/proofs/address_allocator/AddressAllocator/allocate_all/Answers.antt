@@ -1,9 +1,8 @@
-use Rattle.std.proofs.Common.{◌≡◌, ◌+◌, ◌*◌, length, take, sym, ap, subst, arith, inr, Ok, Err, inl, refl}
+use Rattle.std.proofs.Common.{◌≡◌, ◌+◌, take, sym, ap, subst, arith, inr, Ok}
 use Rattle.vm_ranges.specs.Range.{Range}
 use Rattle.std.specs.Prelude.{List}
 use Rattle.vm_addresses.specs.Address.{AddressState, IsAddressState}
 use Rattle.vm_addresses.specs.Allocator.{state_of}
-use Rattle.vm_addresses.proofs.Counts.TakenParts.{more_allowed, then_allocated}
 use Rattle.vm_addresses.proofs.Results.AddressResults.{allocated_state}
 use Rattle.vm_addresses.proofs.Trees.Spaces.{state_of_tree}
 use Rattle.vm_addresses.specs.Several.{AllocatesEach, FailsAtIndex}
@@ -44,17 +43,6 @@ returns-in-Err-clause-answer c = (
 pub returns-in-Err-clause-failed : goal.returns-in-Err-clause-failed
 returns-in-Err-clause-failed c = failed c
 
-pub returns-in-Err-clause-parts : goal.returns-in-Err-clause-parts
-returns-in-Err-clause-parts c =
-    let l = c.loop-index in
-    let requests = c.args.requests.now in
-    let first = c.args.self.now in
-    let failed = then_allocated l.index first l.self c.allocate_constraint.new.self requests c.index-requests-index.result (Err c.in-Err.error)
-    l.invariant.parts
-    (c.index-requests-index.result, (l.index, c.loop-index-test.true, sym c.index-requests-index.is), inl refl) c.in-Err.ensures.part in
-    more_allowed (l.index + 1 + length l.ranges.items) (2 * length requests) first c.free_all.new.allocator requests
-    (c.free_all.ensures.parts (l.index + 1) first requests failed) (omega (arith, l.invariant.many, c.loop-index-test.true))
-
 pub returns-in-Err-clause-state : goal.returns-in-Err-clause-state
 returns-in-Err-clause-state c = subst IsAddressState (sym (state_again c)) (valid c)
 
@@ -68,9 +56,6 @@ loop-index-preserved c =
     c.loop-index-test.true c.index-requests-index.is c.loop-index.invariant.each c.in-Ok.ensures.answer in
     record {
       each = subst (λ (v : List Range). AllocatesEach first (take (i + 1) c.args.requests.now) v new) (sym c.in-Ok-push.ensures.items) each;
-      parts = then_allocated i c.args.self.now c.loop-index.self c.allocate_constraint.new.self c.args.requests.now
-          c.index-requests-index.result (Ok c.in-Ok.range) c.loop-index.invariant.parts
-          (c.index-requests-index.result, (i, c.loop-index-test.true, sym c.index-requests-index.is), inl refl) c.in-Ok.ensures.part;
       state = allocated_state mid new c.index-requests-index.result (Ok c.in-Ok.range) c.loop-index.invariant.state
           c.in-Ok.ensures.answer;
       many = omega (arith, c.in-Ok-push.ensures.len, c.loop-index.invariant.many);
@@ -82,9 +67,3 @@ returns-clause-answer c =
     let l = c.loop-index in
     all_taken c.args.requests.now l.index l.ranges.items (state_of c.args.self.now) (state_of l.self)
     (omega (arith, l.auto.index-end)) l.invariant.each
-
-pub returns-clause-parts : goal.returns-clause-parts
-returns-clause-parts c =
-    let l = c.loop-index in
-    let requests = c.args.requests.now in
-    more_allowed l.index (2 * length requests) c.args.self.now l.self requests l.invariant.parts (omega (arith, l.auto.index-end))

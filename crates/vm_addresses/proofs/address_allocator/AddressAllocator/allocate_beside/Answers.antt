@@ -7,8 +7,6 @@ use Rattle.vm_ranges.specs.declared.error.Error.{Error}
 use Rattle.vm_addresses.specs.Address.{AddressState}
 use Rattle.vm_addresses.specs.Allocator.{state_of}
 use Rattle.vm_addresses.specs.Answer.{SPLIT_LIMIT_MIN_HELD, Grants}
-use Rattle.vm_addresses.proofs.Counts.PartCounts.{part_of}
-use Rattle.vm_addresses.proofs.Results.Requests.{allocates_of}
 use Rattle.vm_addresses.proofs.address_allocator.AddressAllocator.allocate_beside.Goals as goal
 
 -- The test of the limit for one range less.
@@ -28,15 +26,3 @@ pub returns-clause-grants : goal.returns-clause-grants
 returns-clause-grants c =
     granted c.self.inside.held_count (state_of c.args.self.now) (state_of c.allocate_with.new.self) c.args.request c.allocate_with.result.0
     (rw (← c.self.view_is) c.self.invariant.held_count) c.requires c.allocate_with.ensures.grants
-
-pub returns-clause-part : goal.returns-clause-part
-returns-clause-part c =
-    let h = c.allocate_with.ensures in
-    let old = state_of c.args.self.now in
-    let new = state_of c.allocate_with.new.self in
-    let counted = length old.held - 1 in
-    part_of counted c.args.self.now c.allocate_with.new.self c.args.request c.allocate_with.result.0 c.allocate_with.result.1 (omega arith)
-    (omega arith) h.tree.0
-    (allocates_of counted c.args.request old new c.allocate_with.result.0 h.valid
-    (granted c.self.inside.held_count old new c.args.request c.allocate_with.result.0 (rw (← c.self.view_is) c.self.invariant.held_count)
-    c.requires h.grants)) h.unchanged h.count.0 h.count.1

@@ -1,6 +1,6 @@
 use Rattle.vm_tree.specs.Shape.{height_of}
 use Rattle.vm_addresses.specs.Allocator.{state_of}
-use Rattle.vm_addresses.specs.Counts.GapSearch.{SearchesGaps, SearchesAligned}
+use Rattle.vm_addresses.specs.Counts.GapSearch.{SearchesGaps}
 use Rattle.vm_addresses.specs.Counts.Steps.{EntersToAllocate, IsAllocationCount}
 use Rattle.vm_addresses.proofs.Results.Filling.{allocates_filling, no_constraint_fault}
 use Rattle.vm_addresses.proofs.Results.Requests.{allocates_made, for_request}
@@ -27,10 +27,4 @@ returns-in-Ok-clause-steps c =
 pub returns-in-Ok-clause-search : goal.returns-in-Ok-clause-search
 returns-in-Ok-clause-search c =
     for_request _ _ (λ v. SearchesGaps (height_of c.args.self.now) (state_of c.args.self.now) v c.allocate_constraint_counted.result.0
-    c.allocate_constraint_counted.result.1) c.in-Ok.ensures c.allocate_constraint_counted.ensures.search.0
-
-pub returns-in-Ok-clause-search_aligned : goal.returns-in-Ok-clause-search_aligned
-returns-in-Ok-clause-search_aligned c =
-    for_request _ _ (λ v. SearchesAligned (height_of c.args.self.now) (state_of c.args.self.now) v c.allocate_constraint_counted.result.0
-    c.allocate_constraint_counted.result.1)
-    c.in-Ok.ensures c.allocate_constraint_counted.ensures.search.1
+    c.allocate_constraint_counted.result.1) c.in-Ok.ensures c.allocate_constraint_counted.ensures.search

@@ -3,7 +3,6 @@ use Rattle.vm_tree.specs.Shape.{Shape, blocks}
 use Rattle.vm_addresses.specs.Allocator.{state_of}
 use Rattle.vm_addresses.specs.Answer.{SPLIT_LIMIT_MIN_HELD}
 use Rattle.vm_addresses.specs.Tree.Blocks.{held_of}
-use Rattle.vm_addresses.proofs.Counts.Balanced.{balanced_tree}
 use Rattle.vm_addresses.proofs.Placing.Counted.{IsAnswered, refused_answer, refused_state, taken_new, taken_gaps, taken_clear, granted_state, granted_answer}
 use Rattle.vm_addresses.proofs.Trees.CountedTrees.{held_fits}
 use Rattle.vm_addresses.proofs.address_allocator.AddressAllocator.allocate_with.Goals as goal
@@ -69,22 +68,16 @@ granted c =
     c.self.inside.free_len c.args.can_split c.args.request c.allocate_in.new.count c.self.invariant c.in-Ok.taken
     (few c.args.can_split c.self.inside.tree c.args.self.now c.self.view_is c.requires.few) valid.some c.in-Ok.ensures.answer valid)
 
-pub returns-in-Err-clause-tree : goal.returns-in-Err-clause-tree
-returns-in-Err-clause-tree c = (
-  rw (← c.self.view_is) (balanced_tree c.self.inside.tree c.self.invariant.tree c.in-Err.ensures.low),
-  refused_state c.self.inside.tree c.allocate_in.new.tree c.self.inside.space c.self.inside.held_count c.self.inside.gap_count
-      c.self.inside.free_len c.args.can_split c.args.request c.allocate_in.new.count c.self.invariant c.in-Err.error
-      c.in-Err.ensures.answer,
-)
+pub returns-in-Err-clause-state : goal.returns-in-Err-clause-state
+returns-in-Err-clause-state c = refused_state c.self.inside.tree c.allocate_in.new.tree c.self.inside.space c.self.inside.held_count
+    c.self.inside.gap_count c.self.inside.free_len c.args.can_split c.args.request c.allocate_in.new.count c.self.invariant c.in-Err.error
+    c.in-Err.ensures.answer
 
-pub returns-clause-tree : goal.returns-clause-tree
-returns-clause-tree c =
-    let valid = c.in-Ok.ensures.valid in (
-      rw (← c.self.view_is) (balanced_tree c.self.inside.tree c.self.invariant.tree c.in-Ok.ensures.low),
-      granted_state c.self.inside.tree c.allocate_in.new.tree c.self.inside.space c.self.inside.held_count c.self.inside.gap_count
-          c.self.inside.free_len c.args.can_split c.args.request c.allocate_in.new.count c.self.invariant c.in-Ok.taken
-          (few c.args.can_split c.self.inside.tree c.args.self.now c.self.view_is c.requires.few) valid.some c.in-Ok.ensures.answer,
-    )
+pub returns-clause-state : goal.returns-clause-state
+returns-clause-state c = granted_state c.self.inside.tree c.allocate_in.new.tree c.self.inside.space c.self.inside.held_count
+    c.self.inside.gap_count c.self.inside.free_len c.args.can_split c.args.request c.allocate_in.new.count c.self.invariant c.in-Ok.taken
+    (few c.args.can_split c.self.inside.tree c.args.self.now c.self.view_is c.requires.few) c.in-Ok.ensures.valid.some
+    c.in-Ok.ensures.answer
 
 pub returns-in-Err-clause-grants : goal.returns-in-Err-clause-grants
 returns-in-Err-clause-grants c = (refused c).grants
@@ -93,7 +86,7 @@ pub returns-in-Err-clause-count : goal.returns-in-Err-clause-count
 returns-in-Err-clause-count c = ((refused c).enters, (refused c).steps)
 
 pub returns-in-Err-clause-search : goal.returns-in-Err-clause-search
-returns-in-Err-clause-search c = ((refused c).search, (refused c).search_aligned)
+returns-in-Err-clause-search c = (refused c).search
 
 pub returns-clause-grants : goal.returns-clause-grants
 returns-clause-grants c = (granted c).grants
@@ -102,4 +95,4 @@ pub returns-clause-count : goal.returns-clause-count
 returns-clause-count c = ((granted c).enters, (granted c).steps)
 
 pub returns-clause-search : goal.returns-clause-search
-returns-clause-search c = ((granted c).search, (granted c).search_aligned)
+returns-clause-search c = (granted c).search

@@ -1,8 +1,7 @@
-use Rattle.std.proofs.Common.{◌-◌, length, refl, sym, subst, Ok}
+use Rattle.std.proofs.Common.{◌-◌, length, sym, subst, Ok}
 use Rattle.vm_ranges.specs.Range.{Range}
 use Rattle.vm_addresses.specs.Allocator.{state_of}
 use Rattle.vm_addresses.specs.Answer.{Grants}
-use Rattle.vm_addresses.proofs.Counts.TakenParts.{allocated_as}
 use Rattle.vm_addresses.proofs.Moving.Beginning.{away_begins}
 use Rattle.vm_addresses.proofs.address_allocator.AddressAllocator.begin_away.Goals as goal
 
@@ -14,7 +13,3 @@ returns-clause-answer c =
     (λ (v : Range). Grants (length old.held - 1) old c.args.request (Ok v) new) (sym c.beside.ensures.0) c.in_ok-range.ensures.grants in
     away_begins old c.args.key.now c.requires.none.0 c.args.request c.requires.state c.requires.held c.requires.none.1
     c.in_ok-range.ensures.valid new c.beside.result c.requires.none.2 c.if-asks_for.ensures.asks grants c.beside.ensures.1
-
-pub returns-clause-parts : goal.returns-clause-parts
-returns-clause-parts c = allocated_as c.args.self.now c.allocate_beside.new.self c.args.request c.args.request (Ok c.in_ok-range.range) refl
-    c.in_ok-range.ensures.part

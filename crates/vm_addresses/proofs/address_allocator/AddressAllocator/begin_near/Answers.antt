@@ -7,8 +7,7 @@ use Rattle.vm_addresses.specs.Allocator.{state_of}
 use Rattle.vm_addresses.specs.Answer.{Grants}
 use Rattle.vm_addresses.specs.Moves.{BeginsMove}
 use Rattle.vm_addresses.specs.Checks.Moving.{BeginsInside}
-use Rattle.vm_addresses.proofs.Counts.TakenParts.{allocated_as}
-use Rattle.vm_addresses.proofs.Moving.Beginning.{none_closer_begins, closer_begins, closer_policy}
+use Rattle.vm_addresses.proofs.Moving.Beginning.{none_closer_begins, closer_begins}
 use Rattle.vm_addresses.proofs.address_allocator.AddressAllocator.begin_near.Goals as goal
 
 pub returns-in-Ok-clause-answer : goal.returns-in-Ok-clause-answer
@@ -21,10 +20,6 @@ returns-in-Ok-clause-answer c =
     closer_begins old c.args.key.now c.args.gap.now c.args.request c.requires.state c.requires.held c.requires.gap c.requires.valid
     c.args.range c.requires.place c.self.inside.space c.in-Some.closer new c.beside.result space c.in-Ok.ensures.valid.some
     c.in-Some.ensures grants c.beside.ensures.1
-
-pub returns-in-Ok-clause-parts : goal.returns-in-Ok-clause-parts
-returns-in-Ok-clause-parts c = allocated_as c.args.self.now c.allocate_beside.new.self c.args.request c.in-Some.closer (Ok c.in-Ok.beside)
-    (closer_policy c.self.inside.space c.args.range c.args.request c.in-Some.closer c.in-Some.ensures).0 c.in-Ok.ensures.part
 
 pub returns-in-Err-ResourceNotAvailable-clause-answer : goal.returns-in-Err-ResourceNotAvailable-clause-answer
 returns-in-Err-ResourceNotAvailable-clause-answer c =

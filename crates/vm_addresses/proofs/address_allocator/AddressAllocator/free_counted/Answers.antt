@@ -1,7 +1,6 @@
 use Rattle.std.proofs.Common.{arith, ap}
 use Rattle.vm_ranges.specs.Range.{Range}
 use Rattle.vm_tree.specs.Shape.{blocks}
-use Rattle.vm_addresses.proofs.Counts.Balanced.{balanced_tree}
 use Rattle.vm_addresses.proofs.Trees.CountedTrees.{some_held, joined_fits, freed_fits, freed_counted, freed_state, gaps_fit}
 use Rattle.vm_addresses.proofs.Trees.Ends.{ends}
 use Rattle.vm_addresses.proofs.Trees.Freeing.{frees_one, frees_held}
@@ -92,6 +91,3 @@ returns-clause-state c =
     state_of_tree c.free.new.self (freed_counted c.self.inside.tree c.free.new.self c.self.inside.space c.args.key.now
     c.self.inside.held_count c.self.inside.gap_count c.self.inside.free_len c.in-Some.joined c.self.invariant k c.len.result
     c.len.ensures).tree
-
-pub returns-clause-balanced : goal.returns-clause-balanced
-returns-clause-balanced c = rw (← c.self.view_is) (balanced_tree c.self.inside.tree c.self.invariant.tree c.free.ensures.tree)

@@ -13,7 +13,7 @@ use Rattle.vm_addresses.proofs.address_allocator.AddressAllocator.from_nodes.Goa
 
 pub returns-in_default-root_of-clause-answer : goal.returns-in_default-root_of-clause-answer
 returns-in_default-root_of-clause-answer c =
-    makes_none (HasTreeOf c.args.space) Tree _ _ _ _ _ c.nodes.view_is c.in_default.is c.nodes.invariant _ c.deref.ensures.value
+    makes_none (HasTreeOf c.args.space) Tree _ _ _ _ _ c.nodes.view_is c.in_default.is _ c.deref.ensures.value
     c.in_default-root_of.ensures
 
 pub returns-then-not-is_tree_of-clause-answer : goal.returns-then-not-is_tree_of-clause-answer
@@ -21,7 +21,7 @@ returns-then-not-is_tree_of-clause-answer c =
     let whole = c.in-Some-root_of.ensures in
     let is : is_tree_of c.args.space c.nodes.inside.root.left
     ≡ false = ap (λ (o : Option Span). is_tree_of c.args.space o) (sym whole.2) ∙ sym c.is_tree_of.ensures ∙ c.if-not-is_tree_of.true in
-    makes_whole (HasTreeOf c.args.space) Tree _ _ _ _ _ c.nodes.view_is c.in_default.is c.nodes.invariant _ c.deref.ensures.value _
+    makes_whole (HasTreeOf c.args.space) Tree _ _ _ _ _ c.nodes.view_is c.in_default.is _ c.deref.ensures.value _
     (whole.0, whole.1)
     (λ t s keys. (refl, strict_none c.args.space c.nodes.inside.root.left t s is))
 
@@ -42,7 +42,7 @@ returns-in_err-of_held-clause-answer c =
     ∙ sym c.is_tree_of.ensures ∙ c.if-not-is_tree_of.false in
     let range : IsRange c.args.space.start c.args.space.end = (omega arith, omega arith, λ e. omega (arith, e)) in
     let memory : c.from_residual.result ≡ Err OutOfMemory = search rules in
-    rw memory (makes_whole (HasTreeOf c.args.space) Tree _ _ _ _ _ c.nodes.view_is c.in_default.is c.nodes.invariant _ c.deref.ensures.value _
+    rw memory (makes_whole (HasTreeOf c.args.space) Tree _ _ _ _ _ c.nodes.view_is c.in_default.is _ c.deref.ensures.value _
     (whole.0, whole.1)
     (λ t s keys. strict_state c.args.space c.nodes.inside.root.left t s is))
 
@@ -52,7 +52,7 @@ returns-clause-answer c =
     let is : is_tree_of c.args.space c.nodes.inside.root.left ≡ true = ap (λ (o : Option Span). is_tree_of c.args.space o) (sym whole.2)
     ∙ sym c.is_tree_of.ensures ∙ c.if-not-is_tree_of.false in
     let range : IsRange c.args.space.start c.args.space.end = (omega arith, omega arith, λ e. omega (arith, e)) in
-    makes_whole (HasTreeOf c.args.space) Tree _ _ _ _ _ c.nodes.view_is c.in_default.is c.nodes.invariant _ c.deref.ensures.value _
+    makes_whole (HasTreeOf c.args.space) Tree _ _ _ _ _ c.nodes.view_is c.in_default.is _ c.deref.ensures.value _
     (whole.0, whole.1)
     (λ t s keys. strict_made c.args.space c.nodes.inside.root.left t _ (state_of c.in_ok-of_held.field-0) s is
     (c.deref-2.ensures.value ∙ keys) c.in_ok-of_held.ensures.made)

@@ -1,4 +1,4 @@
-use Rattle.std.proofs.Common.{◌≡◌, ◌<◌, ◌≤◌, ℕ, [], ◌∷◌, length, ltb, refl, ap, subst, arith, inr, ⊎_elim, Ok}
+use Rattle.std.proofs.Common.{◌≡◌, ◌<◌, ◌≤◌, ℕ, length, ltb, ap, subst, arith, ⊎_elim, Ok}
 use Rattle.std.proofs.lemmas.Bool.{cases_lt, lt-ltb, le-ltb}
 use Rattle.vm_ranges.specs.Cases.{IsTestOf}
 use Rattle.vm_ranges.specs.Request.{Request, request_for, MakesConstraint}
@@ -7,11 +7,8 @@ use Rattle.vm_addresses.specs.Address.{AddressState, releasing}
 use Rattle.vm_addresses.specs.Allocator.{state_of}
 use Rattle.vm_addresses.specs.Answer.{SPLIT_LIMIT_MIN_HELD, Grants, Frees}
 use Rattle.vm_addresses.specs.Moves.{request_to}
-use Rattle.vm_addresses.proofs.Counts.PartCounts.{part_of}
-use Rattle.vm_addresses.proofs.Counts.TakenParts.{no_parts, then_freed, then_allocated}
 use Rattle.vm_addresses.proofs.Moving.Finishing.{enters_gap}
 use Rattle.vm_addresses.proofs.Results.Moves.{start_is_valid, made_to}
-use Rattle.vm_addresses.proofs.Results.Requests.{allocates_of}
 use Rattle.vm_addresses.proofs.address_allocator.AddressAllocator.replace.Goals as goal
 
 -- The request is the one for the range.
@@ -41,33 +38,17 @@ granted c = c.allocate_with.ensures.grants (length (state_of c.free.new.self).he
 pub unreachable-requires : goal.unreachable-requires
 unreachable-requires c =
     let some = c.len.ensures in
-    let i = c.requires.inside.1.some in
+    let i = c.requires.inside.some in
     start_is_valid c.len.result c.start.result c.in_default.field-0 (omega (arith, some, i)) c.in_default.ensures
 
-pub returns-clause-moved : goal.returns-clause-moved
-returns-clause-moved c =
-    let old = state_of c.args.self.now in
-    let new = state_of c.allocate_with.new.self in
-    let inside = c.requires.inside in
-    let answer = c.allocate_with.result.0 in
-    let grants : Grants (length (releasing c.args.key.now old).held) (releasing c.args.key.now old) c.in-Ok.request answer new = subst
-    (λ (v : AddressState). Grants (length v.held) v c.in-Ok.request answer new) (freed c) (granted c) in
-    enters_gap old new c.args.key.now inside.0 c.args.range answer c.requires.held inside.1 (λ n. (inside.2 n).1)
-    (λ n. c.allocate_with.ensures.memory c.args.range.start (ap (λ (v : Request). v.policy) (made c)) (inside.2 n).0)
-    (subst (λ (v : Request). Grants (length (releasing c.args.key.now old).held) (releasing c.args.key.now old) v answer new) (made c) grants)
-
-pub returns-clause-parts : goal.returns-clause-parts
-returns-clause-parts c = λ request.
-    let old = c.args.self.now in
-    let mid = c.free.new.self in
-    let new = c.allocate_with.new.self in
-    let requests = request ∷ [] in
-    let h = c.allocate_with.ensures in
-    let counted = length (state_of mid).held in
-    let first = then_freed 0 old old mid requests c.args.key.now c.free.result (no_parts 0 old requests) c.free.ensures.part
-    c.free.ensures.unchanged in
-    then_allocated 1 old mid new requests c.in-Ok.request c.allocate_with.result.0 first
-    (request, (0, omega arith, refl), inr (c.args.range.start, ap (λ (v : Request). v.policy) (made c)))
-    (part_of counted mid new c.in-Ok.request c.allocate_with.result.0 c.allocate_with.result.1 (omega arith) (omega arith) h.tree.0
-    (allocates_of counted c.in-Ok.request (state_of mid) (state_of new) c.allocate_with.result.0 h.valid (granted c)) h.unchanged h.count.0
-    h.count.1)
+pub returns : goal.returns
+returns c = record {
+  moved = let old = state_of c.args.self.now in
+      let new = state_of c.allocate_with.new.self in
+      let answer = c.allocate_with.result.0 in
+      let grants : Grants (length (releasing c.args.key.now old).held) (releasing c.args.key.now old) c.in-Ok.request answer new = subst
+      (λ (v : AddressState). Grants (length v.held) v c.in-Ok.request answer new) (freed c) (granted c) in
+      enters_gap old new c.args.key.now c.args.range _ answer c.requires.held c.requires.inside
+      (c.allocate_with.ensures.memory c.args.range.start (ap (λ (v : Request). v.policy) (made c)))
+      (subst (λ (v : Request). Grants (length (releasing c.args.key.now old).held) (releasing c.args.key.now old) v answer new) (made c) grants);
+}

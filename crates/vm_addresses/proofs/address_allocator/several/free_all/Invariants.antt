@@ -1,20 +1,16 @@
-use Rattle.std.specs.Prelude.{ℕ, ◌+◌, ◌≤◌, List, length}
+use Rattle.std.specs.Prelude.{List, length}
 use Rattle.vm_ranges.specs.Request.{Request}
 use Rattle.vm_addresses.specs.Address.{AddressState, IsAddressState}
-use Rattle.vm_tree.specs.Shape.{Shape}
-use Rattle.vm_addresses.specs.Counts.Parts.{TakesParts}
 use Rattle.vm_addresses.specs.Allocator.{state_of}
 use Rattle.vm_addresses.specs.Several.{AllocatesEach}
 use Rattle.vm_addresses.proofs.address_allocator.several.free_all.Given as goal
 
--- If requests got the ranges, some of them got the ranges that are left. Each range that is freed takes one part.
+-- If requests got the ranges, some of them got the ranges that are left.
 abbrev pub invariant-loop-range : goal.invariant-loop-range
 invariant-loop-range l = record {
   left : (before : AddressState) (requests : List Request) → IsAddressState before →
       AllocatesEach before requests l.initial.ranges.items (state_of l.initial.allocator) →
       (ps : List Request) × AllocatesEach before ps l.ranges.items (state_of l.allocator);
-  parts : (n : ℕ) (before : Shape) (requests : List Request) → TakesParts n before requests l.initial.allocator →
-      (m : ℕ) × (m + length l.ranges.items ≤ n + length l.initial.ranges.items) × TakesParts m before requests l.allocator;
 }
 
 abbrev pub decreases-loop-range : goal.decreases-loop-range
