@@ -16,8 +16,9 @@
 //!
 //! # What is proved
 //!
-//! - The exact result of each call, and each error under its condition (`Allocates`, `Frees`). An error
-//!   leaves the same tree, except after `allocate_all`, which leaves the same state.
+//! - The exact result of each call, and each error except out of memory under its condition
+//!   (`Allocates`, `Frees`). An error leaves the same tree, except after `allocate_all`, which leaves
+//!   the same state.
 //! - For every list of calls: held ranges are valid and disjoint, and the state decides the results, unless
 //!   memory runs out.
 //! - The number of nodes that an allocation and a successful free enter (`EntersToAllocate`,

@@ -163,9 +163,3 @@ module _ (id : ℕ) (cs : List (List Run)) (bs : List ℕ) (r : AreChunks last_o
       ap (λ x. entries_of (set cs i x)) (e ∙ here) ∙ ap (λ (cs : List (List Run)). entries_of cs) (set-get_or cs i c),
     )
 
-  -- No other chunk is empty.
-  pub added_filled : (c' : List Run) → 2 ≤ length (set cs i c') → AreFilledBut i (set cs i c')
-  added_filled c' two k d w other =
-      let m = length-set cs i c' in
-      subst (λ (c : List Run). 0 < length c) (sym (get_or-set_other cs i k c' d other))
-      (r.filled (omega (arith, two, m)) k d (omega (arith, w, m)))

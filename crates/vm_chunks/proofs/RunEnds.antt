@@ -35,16 +35,6 @@ starts_next id rs r rest a e s =
     let b = subst (AreRuns (id + 1)) e a in
     record { low = r ∷ []; rest = rest; parts = e; joins = inr (r, refl, s, refl, b.0); below = b.2 }
 
-pub starts_far : (id : ℕ) (rs : List Run) (r : Run) (rest : List Run) → AreRuns (id + 1) rs → rs ≡ r ∷ rest → r.last + 1 ≢ id →
-    StartsAbove id rs id
-starts_far id rs r rest a e s =
-    let b = subst (AreRuns (id + 1)) e a in
-    record { low = []; rest = rs; parts = refl; joins = inl (refl, refl); below = subst (AreRuns id) (sym e) (b.0, omega (arith, b.1, s), b.2) }
-
-pub starts_alone : (id : ℕ) (rs : List Run) → rs ≡ [] → StartsAbove id rs id
-starts_alone id rs e =
-    record { low = []; rest = rs; parts = refl; joins = inl (refl, refl); below = subst (AreRuns id) (sym e) tt }
-
 module _ (first last start : ℕ) (rs : List Run) (o : first ≤ last) (a : AreRuns (first + 1) rs) (s : StartsAbove first rs start) where
   abbrev added : Run
   added = record { first = start; last = last }

@@ -8,8 +8,8 @@
 //!
 //! # What is proved
 //!
-//! - The exact result of each call, and each error under its condition (`Reserves`, `Releases`,
-//!   `MovesDevice`). An error leaves the same devices, ids and ranges.
+//! - The exact result of each call, and each error except out of memory under its condition
+//!   (`Reserves`, `Releases`, `MovesDevice`). An error leaves the same devices, ids and ranges.
 //! - For every list of calls: the devices are paired, and the state decides the results, unless memory runs
 //!   out.
 //! - A saved manager is read if and only if it is valid.

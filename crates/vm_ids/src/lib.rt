@@ -8,8 +8,8 @@
 //!
 //! # What is proved
 //!
-//! - The exact result of each call, and each error under its condition (`AllocatesId`, `FreesId`). An error
-//!   changes nothing.
+//! - The exact result of each call, and each error except out of memory under its condition
+//!   (`AllocatesId`, `FreesId`). An error changes nothing.
 //! - For every list of calls: each id is the lowest that is not held, no id is held twice, and the state
 //!   decides the results, unless memory runs out.
 //! - Saved ids are read if and only if they are valid (`AreFreedOf`).

@@ -32,19 +32,6 @@ same_finds st su upto e None h = λ k l. e k l ∙ h k l
 same_finds st su upto e (Some i) h = (h.0, e i h.0 ∙ h.1, λ k l u. e k u ∙ h.2 k l u)
 
 module _ (a : Inside) (bs : List Block) (v : IsInside a) (e : length a.starts ≡ CAPACITY) (view : encoded_blocks a ≡ bs) where
-  -- A row of held bits ends at the end of the leaf or before it.
-  pub gap_within : (r from : ℕ) → from ≤ length bs → ((k : ℕ) → from ≤ k → k < r → states_in a.held k ≡ Allocated) → r ≤ length bs
-  gap_within r from l h =
-      let n = length_of a v e in
-      let m = ap length view in
-      elim (cases_lt (length bs) r) [
-        | inl q ↦ (
-            let past : states_in a.held (length bs) ≡ Free = ap state_of_bit (bit_at_above a.held a.len (length bs) v.mask (omega arith)) in
-            absurd (not_both _ past (h (length bs) l q))
-            )
-        | inr q ↦ q
-      ]
-
   -- The last gap by the mask is the last gap by the blocks.
   pub gap_last : (upto : ℕ) (r : Option ℕ) → upto ≤ length bs → FindsBefore (states_in a.held) upto r →
       FindsBefore (λ k. (nth bs k).state) upto r

@@ -9,8 +9,8 @@
 //!
 //! # What is proved
 //!
-//! - The exact result of each call, and each error under its condition (`AllocatesWith`, `FreesWith`,
-//!   `MovesWith`). An error leaves the same ranges with the same values.
+//! - The exact result of each call, and each error except out of memory under its condition
+//!   (`AllocatesWith`, `FreesWith`, `MovesWith`). An error leaves the same ranges with the same values.
 //! - Ranges are allocated, moved and freed as by `AddressAllocator`.
 //! - A range has the value of its allocation or of the last `set`, also after it moves and while other ranges
 //!   change.

@@ -104,8 +104,9 @@
 //!
 //! The allocated ranges and gaps are in leaves of 280 bytes, with 12 to 32 of them in each leaf, and an
 //! inner node of 56 bytes joins two subtrees. A tree that is one leaf can have fewer. Allocating or moving
-//! a range allocates a leaf and an inner node if its leaf would have more than 32, and otherwise nothing,
-//! and `allocate_all` also three lists. A copy allocates all leaves and nodes, `with_held` also a list, and
+//! a range allocates a leaf and an inner node if its leaf would have more than 32, and otherwise nothing.
+//! A move to a part of the gap that it leaves always allocates both. `allocate_all` also allocates three
+//! lists. A copy allocates all leaves and nodes, `with_held` also a list, and
 //! `with_free` two. Reserving or moving a device, freeing, skipping or copying ids, and keeping, moving or
 //! copying the values of a map can allocate.
 //!

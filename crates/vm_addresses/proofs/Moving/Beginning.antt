@@ -550,17 +550,6 @@ module _ (old : AddressState) (r gap : Range) (request : Request) (state : IsAdd
         (λ k. moves_not old r request state held valid x k.1)
         (closer space asked (Err x) new e is h))
 
--- The request for the ranges before one has the same policy and size.
-pub closer_policy : (space q : Range) (request closer : Request) → IsForCloser space request q (Some closer) →
-    (closer.policy ≡ request.policy) × (closer.size ≡ request.size)
-closer_policy space q request closer h = by_policy request.policy request.size request.align request.window h
-  where
-    by_policy : (policy : AllocPolicy) (n a : ℕ) (w : Option Range) → IsForCloser space (request_in w n a policy) q (Some closer) →
-        (closer.policy ≡ policy) × (closer.size ≡ n)
-    by_policy FirstMatch n a w h = (ap (λ (v : Request). v.policy) h.1, ap (λ (v : Request). v.size) h.1)
-    by_policy LastMatch n a w h = (ap (λ (v : Request). v.policy) h.1, ap (λ (v : Request). v.size) h.1)
-    by_policy (ExactMatch t) n a w h = absurd h
-
 pub ruleset away = (asked_begins, away_begins, away_fails)
 
 pub ruleset near = (alone_begins, none_closer_begins, closer_begins, closer_fails)

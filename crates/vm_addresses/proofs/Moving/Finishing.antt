@@ -100,7 +100,7 @@ enters_gap old new r q HasMemory answer held can memory h =
     (chosen_by q.start (releasing r old) new answer (length (releasing r old).held) (ExactMatch q.start) None n 1 some
     (omega (arith, can.some, can.below)) chosen h)
 
--- What replaces a range has memory if it is another range.
+-- A range that replaces another one has the memory for it.
 pub replaces : (old mid : AddressState) (r : Range) (begun : BegunMove) → IsBegun old r begun mid → begun.is_allocated ≡ false →
     begun.range ≢ r → CanReplace mid r begun.range (begun.spare ≢ None)
 replaces old mid r begun h is other =

@@ -14,8 +14,8 @@ abbrev pub MAX_NESTING_REPAIRED : ℕ
 MAX_NESTING_REPAIRED = 50
 
 -- The value has any nodes or none, nested at most MAX_NESTING_REPAIRED deep, and their keys are in order in the space.
--- Held keys end below MAX. At most SPLIT_LIMIT_MIN_HELD keys are held, so no split fails for their number. They are
--- the held ranges of the state, and all other addresses of the space are clear.
+-- Held keys end below MAX. At most SPLIT_LIMIT_MIN_HELD keys are held: with that number, the next split fails. They are the
+-- held ranges of the state, and all other addresses of the space are clear.
 pub record EncodesKeys (d : Data) (space : Range) (state : AddressState) : Type 0 where
   pub tree : NodeTree
   pub nodes : HasNodes d tree
