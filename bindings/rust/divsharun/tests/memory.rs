@@ -40,7 +40,7 @@ type EndedCall = fn(&mut AddressAllocator);
 /// leaf and inner node of a new tree or of a copy, and two for a split of the full leaf. A call with
 /// ranges copies the list, and one with requests makes three lists. Holes between free ranges are a list
 /// too.
-const TRIED: [(u64, TriedCall); 42] = [
+const TRIED: [(u64, TriedCall); 43] = [
     (1, |_| AddressAllocator::try_new(0, 64).map(drop)),
     (1, |_| AddressAllocator::try_over(both()[0]).map(drop)),
     (1, |space| space.try_clone().map(drop)),
@@ -78,6 +78,15 @@ const TRIED: [(u64, TriedCall); 42] = [
     (2, |space| space.try_allocate(4, 1, ExactMatch(4)).map(drop)),
     (0, |space| {
         space.try_allocate(16, 1, ExactMatch(24)).map(drop)
+    }),
+    // A range in the middle of the only gap splits a leaf with room.
+    (1, |_| {
+        let mut space = AddressAllocator::try_new(0, 0x1000)?;
+        let held = space.try_allocate(0x100, 0x100, ExactMatch(0x500))?;
+        assert_eq!((held.start(), held.end()), (0x500, 0x5ff));
+        let counts = (space.held_count(), space.gap_count(), space.height());
+        assert_eq!(counts, (1, 2, 1));
+        Ok(())
     }),
     // A range in the middle of a gap splits a leaf with 31 ranges and gaps.
     (1 + 1 + 2, |_| {
@@ -366,6 +375,7 @@ fn refuse_each_request() {
             let (answer, _) = refusing(number, || call(&mut space));
             assert_eq!(answer, Err(TryError::OutOfMemory), "row {row}");
             assert_eq!((&space, blocks()), (&unchanged, before), "row {row}");
+            assert_eq!(call(&mut space), Ok(()), "row {row} again");
         }
     }
 }

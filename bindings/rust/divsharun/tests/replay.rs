@@ -7,7 +7,7 @@ mod rows;
 
 use divsharun::replay::{run, ReplayError};
 use refusing::refusing;
-use rows::{Rows, FIRST_PROGRAM, PROGRAMS};
+use rows::{Rows, CUT_LINES, FIRST_PROGRAM, PROGRAMS, PROGRAM_ERRORS, PROGRAM_IDS};
 use std::fs::File;
 use std::io::{self, ErrorKind, Read, Write};
 use std::os::fd::OwnedFd;
@@ -222,6 +222,39 @@ fn each_program_has_its_output() {
     }
 }
 
+/// Returns the result of a prefix of a line, which is the last line of the input. The line has this result.
+fn result_of_prefix<'a>(line: &str, result: &'a str, prefix: &str) -> &'a str {
+    if prefix == line {
+        return result;
+    }
+    let cut = CUT_LINES
+        .iter()
+        .find(|row| (row.0, row.1) == (line, prefix));
+    cut.map_or("error line", |row| row.2)
+}
+
+/// Ends the input after each byte.
+#[test]
+fn each_prefix_of_a_program_has_its_output() {
+    let mut cut_lines = 0;
+    for rows in [PROGRAM_ERRORS, PROGRAM_IDS] {
+        for (number, (line, result)) in rows.iter().enumerate() {
+            let (ended, results) = (input_of(&rows[..number]), output_of(&rows[..number]));
+            expect_output(&ended, &results, "ended lines");
+            for length in 1..=line.len() {
+                let prefix = &line[..length];
+                let last = result_of_prefix(line, result, prefix);
+                let (input, output) = (format!("{ended}{prefix}"), format!("{results}{last}\n"));
+                expect_output(&input, &output, prefix);
+                cut_lines += usize::from(prefix != *line && last != "error line");
+            }
+        }
+        expect_output(&input_of(rows), &output_of(rows), "all lines");
+    }
+    // One line is there twice.
+    assert_eq!(cut_lines, CUT_LINES.len() + 3);
+}
+
 #[test]
 fn long_lines_are_read_to_their_end() {
     let rows: Rows = &[("space 16 4", "done"), ("first 1 1", "range 16 16")];
@@ -369,6 +402,81 @@ fn results_are_written_together_and_without_memory() {
     let [(few, _), (many, writes)] = [1, 1000].map(cost);
     assert_eq!(many, few);
     assert!(writes <= 13 * 1000 * 20 / 4000, "{writes} writes");
+}
+
+/// Programs, and their results if the allocation of a number fails: first if none fails, then the first one, and so
+/// on. Commas stand for the ends of lines.
+///
+/// A space is one leaf, and a split of a leaf with room allocates nothing. A manager makes lists of devices and of
+/// their starts, and a list of freed ids as an allocator of ids does.
+const REFUSED: [(&str, &[&str]); 3] = [
+    (
+        "space 16 4,first 1 1,first 3 1,free 16 16,",
+        &[
+            "done,range 16 16,range 17 19,done,",
+            "error memory,error no-space,error no-space,error no-space,",
+        ],
+    ),
+    (
+        "ids 5 9,id,id,unid 5,has 5,unid 5,id,id,",
+        &[
+            "done,id 5,id 6,id 5,no,error already-released 5,id 5,id 7,",
+            "done,id 5,id 6,error memory,yes,id 5,id 5,id 7,",
+        ],
+    ),
+    (
+        "manager 0 1 0 16,device 4 1,undevice 0,device 4 1,",
+        &[
+            "done,device 0 0 3,done,device 0 0 3,",
+            "error memory,error no-manager,error no-manager,error no-manager,",
+            "done,error memory,error never-allocated 0,device 0 0 3,",
+            "done,error memory,error never-allocated 0,device 0 0 3,",
+            "done,device 0 0 3,error memory,device 1 4 7,",
+        ],
+    ),
+];
+
+/// Runs a program in which the allocation of a number fails. Only the calls of its lines allocate. Returns its results
+/// and the number of allocations.
+fn run_refusing(number: u64, input: &str) -> (String, u64) {
+    let (input, mut output) = (input.replace(',', "\n"), [0; 4096]);
+    let mut rest = &mut output[..];
+    let (result, requests) = refusing(number, || run(input.as_bytes(), &mut rest));
+    assert_eq!(result, Ok(()));
+    let written = 4096 - rest.len();
+    let results = String::from_utf8(output[..written].to_vec()).unwrap();
+    (results.replace('\n', ","), requests)
+}
+
+/// Fails each allocation of a program in turn.
+fn expect_results(input: &str, outputs: &[String]) {
+    let requests = outputs.len() as u64 - 1;
+    assert_eq!(run_refusing(0, input), (outputs[0].clone(), requests));
+    for (number, output) in outputs.iter().enumerate() {
+        assert_eq!(run_refusing(number as u64, input).0, *output, "{number}");
+    }
+}
+
+#[test]
+fn a_failed_allocation_changes_nothing() {
+    for (input, outputs) in REFUSED {
+        let outputs: Vec<_> = outputs.iter().map(|output| output.to_string()).collect();
+        expect_results(input, &outputs);
+    }
+}
+
+/// A split of a leaf with 32 blocks allocates a leaf and a node.
+#[test]
+fn a_failed_split_of_a_full_leaf_changes_nothing() {
+    let even = || (0..16).map(|number| 2 * number);
+    let lines: String = even().map(|at| format!("exact 1 1 {at},")).collect();
+    let ranges: String = even().map(|at| format!("range {at} {at},")).collect();
+    let input = format!("space 0 4096,{lines}last 1 1,last 1 1,first 2 1,free 30 30,first 1 1,");
+    let later = "range 31 32,done,range 1 1,";
+    let split = format!("done,{ranges}range 4095 4095,range 4094 4094,{later}");
+    let refused = format!("done,{ranges}error memory,range 4095 4095,{later}");
+    let no_space = format!("error memory,{}", "error no-space,".repeat(21));
+    expect_results(&input, &[split, no_space, refused.clone(), refused]);
 }
 
 /// Runs the program. Returns its exit status, its output and its standard error.

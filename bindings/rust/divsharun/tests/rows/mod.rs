@@ -88,7 +88,7 @@ const ERRORS_IN_ORDER: Rows = &[
 ];
 
 /// Each error of a line on a space.
-const PROGRAM_ERRORS: Rows = &[
+pub const PROGRAM_ERRORS: Rows = &[
     ("space 0 0", "error underflow"),
     ("space 18446744073709551615 2", "error overflow"),
     ("space 4096 4096", "done"),
@@ -146,7 +146,7 @@ const ALL_POLICIES: Rows = &[
 ];
 
 /// Each error of a line on ids.
-const PROGRAM_IDS: Rows = &[
+pub const PROGRAM_IDS: Rows = &[
     ("id", "error no-ids"),
     ("ids 5 5", "done"),
     ("id", "id 5"),
@@ -386,4 +386,136 @@ pub const PROGRAMS: [(&str, Rows); 18] = [
     ("errors of devices", ERRORS_OF_DEVICES),
     ("words on devices", WORDS_ON_DEVICES),
     ("a manager beside others", MANAGER_BESIDE_OTHERS),
+];
+
+/// Prefixes of lines of [`PROGRAM_ERRORS`] and [`PROGRAM_IDS`] that are in the language too: the line, its prefix, and
+/// the result of the prefix as the last line.
+pub const CUT_LINES: [(&str, &str, &str); 39] = [
+    ("space 4096 4096", "space 4096 4", "done"),
+    ("space 4096 4096", "space 4096 40", "done"),
+    ("space 4096 4096", "space 4096 409", "done"),
+    ("exact 4 4 4099", "exact 4 4 4", "error not-available"),
+    ("exact 4 4 4099", "exact 4 4 40", "error not-available"),
+    ("exact 4 4 4099", "exact 4 4 409", "error unaligned"),
+    ("exact 256 256 4096", "exact 256 256 4", "error unaligned"),
+    ("exact 256 256 4096", "exact 256 256 40", "error unaligned"),
+    ("exact 256 256 4096", "exact 256 256 409", "error unaligned"),
+    (
+        "free 4351 4096",
+        "free 4351 4",
+        "error invalid-range 4351 4",
+    ),
+    (
+        "free 4351 4096",
+        "free 4351 40",
+        "error invalid-range 4351 40",
+    ),
+    (
+        "free 4351 4096",
+        "free 4351 409",
+        "error invalid-range 4351 409",
+    ),
+    (
+        "free 4096 4350",
+        "free 4096 4",
+        "error invalid-range 4096 4",
+    ),
+    (
+        "free 4096 4350",
+        "free 4096 43",
+        "error invalid-range 4096 43",
+    ),
+    (
+        "free 4096 4350",
+        "free 4096 435",
+        "error invalid-range 4096 435",
+    ),
+    ("last 16 16", "last 16 1", "range 8176 8191"),
+    (
+        "free 4096 4351",
+        "free 4096 4",
+        "error invalid-range 4096 4",
+    ),
+    (
+        "free 4096 4351",
+        "free 4096 43",
+        "error invalid-range 4096 43",
+    ),
+    (
+        "free 4096 4351",
+        "free 4096 435",
+        "error invalid-range 4096 435",
+    ),
+    ("ids 5 5", "id", "error no-ids"),
+    ("ids 4294967294 4294967295", "id", "id 5"),
+    (
+        "ids 4294967294 4294967295",
+        "ids 4294967294 4",
+        "error invalid-range 4294967294 4",
+    ),
+    (
+        "ids 4294967294 4294967295",
+        "ids 4294967294 42",
+        "error invalid-range 4294967294 42",
+    ),
+    (
+        "ids 4294967294 4294967295",
+        "ids 4294967294 429",
+        "error invalid-range 4294967294 429",
+    ),
+    (
+        "ids 4294967294 4294967295",
+        "ids 4294967294 4294",
+        "error invalid-range 4294967294 4294",
+    ),
+    (
+        "ids 4294967294 4294967295",
+        "ids 4294967294 42949",
+        "error invalid-range 4294967294 42949",
+    ),
+    (
+        "ids 4294967294 4294967295",
+        "ids 4294967294 429496",
+        "error invalid-range 4294967294 429496",
+    ),
+    (
+        "ids 4294967294 4294967295",
+        "ids 4294967294 4294967",
+        "error invalid-range 4294967294 4294967",
+    ),
+    (
+        "ids 4294967294 4294967295",
+        "ids 4294967294 42949672",
+        "error invalid-range 4294967294 42949672",
+    ),
+    (
+        "ids 4294967294 4294967295",
+        "ids 4294967294 429496729",
+        "error invalid-range 4294967294 429496729",
+    ),
+    ("unid 4294967296", "unid 4", "error out-of-range 4"),
+    ("unid 4294967296", "unid 42", "error out-of-range 42"),
+    ("unid 4294967296", "unid 429", "error out-of-range 429"),
+    ("unid 4294967296", "unid 4294", "error out-of-range 4294"),
+    ("unid 4294967296", "unid 42949", "error out-of-range 42949"),
+    (
+        "unid 4294967296",
+        "unid 429496",
+        "error out-of-range 429496",
+    ),
+    (
+        "unid 4294967296",
+        "unid 4294967",
+        "error out-of-range 4294967",
+    ),
+    (
+        "unid 4294967296",
+        "unid 42949672",
+        "error out-of-range 42949672",
+    ),
+    (
+        "unid 4294967296",
+        "unid 429496729",
+        "error out-of-range 429496729",
+    ),
 ];
