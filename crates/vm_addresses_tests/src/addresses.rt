@@ -14,6 +14,7 @@ use vm_allocator::{AddressAllocator, AllocPolicy, Constraint, Error, RangeInclus
 mod by_name;
 mod differences;
 mod ends;
+mod order;
 mod with_held;
 mod without_memory;
 

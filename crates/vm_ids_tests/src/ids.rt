@@ -2,7 +2,7 @@
 //!
 //! They guard against an id that is allocated twice, is not the lowest free one, or is lost when it is
 //! freed.
-use crate::fixtures::{expect_eq, expect_true, fail_from_here, parsed, saved_ids};
+use crate::fixtures::{ENOUGH, expect_eq, expect_true, fail_from_here, parsed, saved_ids};
 use Call::{Allocate, Count, Fields, Free, Holds, Peek, TakeAll};
 use Expected::{AlreadyReleased, Id, NeverAllocated, NotAvailable, OutOfRange, Overflow};
 use std::process::Abort;
@@ -205,6 +205,33 @@ fn test_is_allocated_with_freed(rt: HostRuntime) {
         Holds(7, false),
     ];
     replay_in(&rt, 5, 23, calls);
+}
+
+/// The range of only the highest id.
+#[test]
+fn one_id_allocated_freed_and_allocated(rt: HostRuntime) {
+    let calls = &[
+        Free(HIGH, NeverAllocated(HIGH)),
+        Allocate(Id(HIGH)),
+        Allocate(Overflow),
+        Peek(Overflow),
+        Free(HIGH, Id(HIGH)),
+        Holds(HIGH, false),
+        Peek(Id(HIGH)),
+        Allocate(Id(HIGH)),
+        Allocate(Overflow),
+    ];
+    replay_in(&rt, HIGH, HIGH, calls);
+}
+
+/// A clone and its original allocate the same freed id.
+#[test]
+fn a_clone_allocates_the_freed_id(rt: HostRuntime) {
+    let mut ids = made(&rt, 5, 23);
+    replay(&rt, &mut ids, &[TakeAll(5, 7), Free(6, Id(6))]);
+    let mut clone = ids.try_clone(rt.alloc()).expect(&rt, ENOUGH);
+    replay(&rt, &mut clone, &[Allocate(Id(6)), Allocate(Id(8))]);
+    replay(&rt, &mut ids, &[Allocate(Id(6))]);
 }
 
 /// Allocates and frees only the highest id.

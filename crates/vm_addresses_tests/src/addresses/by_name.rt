@@ -1,9 +1,21 @@
 //! Tests that vm-allocator has for the nodes of its tree, by the same names. A key that is inserted is an
 //! allocated range.
 use super::*;
-use crate::fixtures::{holds_exactly, range};
+use crate::fixtures::{hold, holds_exactly, range};
 
-/// Makes the calls in turn on an allocator of 0x1000 addresses. Its blocks fit in one leaf after each call.
+/// Returns an allocator of 0x1000 addresses. Twenty of the lowest and twenty of the highest are allocated, each
+/// with a gap after it.
+fn many_held(rt: &(impl Abort + AllocGlobal)) -> AddressAllocator {
+    let mut space = made(rt, 0, 0x1000);
+    for number in 0..20u64 {
+        hold(rt, &mut space, number.saturating_mul(2), 1);
+        hold(rt, &mut space, number.saturating_mul(2).saturating_add(0x800), 1);
+    }
+    space
+}
+
+/// Makes the calls in turn on the allocator of [`many_held`], with at most 8 ranges more. It then has 81 to 97 blocks,
+/// in three to eight leaves of 12 to 32. So an AVL tree has height 3 to 5.
 fn replay_balanced(
     rt: &(impl Abort + AllocGlobal),
     space: &mut AddressAllocator,
@@ -11,8 +23,25 @@ fn replay_balanced(
 ) {
     for row in rows {
         replay(rt, space, &[*row]);
-        expect_eq(rt, space.height(), 1, "one leaf");
+        let height = space.height();
+        expect_true(rt, 3 <= height && height <= 5, height);
     }
+}
+
+/// Frees the ranges of [`many_held`]. The others, which are allocated, fit in one leaf.
+fn expect_others(
+    rt: &(impl Abort + AllocGlobal),
+    space: &mut AddressAllocator,
+    others: &[(u64, u64)],
+) {
+    for number in 0..20u64 {
+        let low = number.saturating_mul(2);
+        let high = low.saturating_add(0x800);
+        replay(rt, space, &[(Free(low, low), Range(low, low))]);
+        replay(rt, space, &[(Free(high, high), Range(high, high))]);
+    }
+    expect_true(rt, holds_exactly(space, others), others);
+    expect_eq(rt, space.height(), 1, "one leaf");
 }
 
 #[test]
@@ -75,7 +104,16 @@ fn test_tree_insert_balanced(rt: HostRuntime) {
         (Exact(0x10, 1, 0x340), Range(0x340, 0x34F)),
         (Exact(0x2F, 1, 0x311), Range(0x311, 0x33F)),
         (Free(0x300, 0x310), Range(0x300, 0x310)),
-        (Space(0, 0x1000), Range(0, 0xFFF)),
+    ];
+    let mut space = many_held(&rt);
+    replay_balanced(&rt, &mut space, rows);
+    let left = &[(0x100, 0x110), (0x311, 0x33F), (0x340, 0x34F), (0x350, 0x360)];
+    expect_others(&rt, &mut space, left);
+}
+
+#[test]
+fn test_tree_insert_balanced_after_deletions(rt: HostRuntime) {
+    let rows = &[
         (Exact(0x11, 1, 0x300), Range(0x300, 0x310)),
         (Exact(0x11, 1, 0x100), Range(0x100, 0x110)),
         (Exact(0x10, 1, 0x90), Range(0x90, 0x9F)),
@@ -90,7 +128,18 @@ fn test_tree_insert_balanced(rt: HostRuntime) {
         (Exact(0x10, 1, 0x70), Range(0x70, 0x7F)),
         (Exact(0x10, 1, 0x60), Range(0x60, 0x6F)),
     ];
-    replay_balanced(&rt, &mut made(&rt, 0, 0x1000), rows);
+    let mut space = many_held(&rt);
+    replay_balanced(&rt, &mut space, rows);
+    let left = &[
+        (0x60, 0x6F),
+        (0x70, 0x7F),
+        (0x80, 0x8F),
+        (0x90, 0x9F),
+        (0x100, 0x110),
+        (0x300, 0x310),
+        (0x311, 0x313),
+    ];
+    expect_others(&rt, &mut space, left);
 }
 
 #[test]
@@ -145,7 +194,7 @@ fn test_tree_mark_as_allocated(rt: HostRuntime) {
 
 #[test]
 fn test_tree_delete(rt: HostRuntime) {
-    let mut space = made(&rt, 0, 0x1000);
+    let mut space = many_held(&rt);
     let rows = &[
         (Exact(0x91, 1, 0x200), Range(0x200, 0x290)),
         (Exact(0x100, 1, 0x300), Range(0x300, 0x3FF)),
@@ -154,12 +203,13 @@ fn test_tree_delete(rt: HostRuntime) {
         (Exact(0x11, 1, 0x100), Range(0x100, 0x110)),
     ];
     replay_balanced(&rt, &mut space, rows);
-    let all = &[(0x100, 0x110), (0x200, 0x290), (0x300, 0x3FF)];
-    expect_true(&rt, holds_exactly(&space, all), "all three");
+    for (start, end) in [(0x100, 0x110), (0x200, 0x290), (0x300, 0x3FF)] {
+        expect_true(&rt, space.holds(&range(&rt, start, end)), start);
+    }
     let rows = &[
         (Free(0x200, 0x290), Range(0x200, 0x290)),
         (Free(0x300, 0x3FF), Range(0x300, 0x3FF)),
     ];
     replay_balanced(&rt, &mut space, rows);
-    expect_true(&rt, holds_exactly(&space, &[(0x100, 0x110)]), "the lowest");
+    expect_others(&rt, &mut space, &[(0x100, 0x110)]);
 }

@@ -2,7 +2,6 @@
 //!
 //! They guard against a call that allocates memory without need.
 use super::*;
-use crate::fixtures::ENOUGH;
 use Request::{Exact, Left, Several, Window};
 
 /// A request with its expected result.

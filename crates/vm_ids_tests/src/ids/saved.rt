@@ -3,7 +3,7 @@
 //! They guard against a format with another meaning than its documentation, against a value of
 //! vm-allocator that is not read, and against a check of a value that allocates.
 use super::*;
-use crate::fixtures::{ENOUGH, items};
+use crate::fixtures::items;
 use vm_ranges::ValueError;
 
 #[test]
