@@ -85,6 +85,11 @@ pub(crate) fn parsed(rt: &(impl Abort + AllocGlobal), text: &str) -> Value {
     Value::from_str(rt.alloc(), text).expect(rt, ENOUGH)
 }
 
+/// Replaces the part at a path of a value.
+pub(crate) fn put(rt: &impl Abort, value: &mut Value, place: &str, part: Value) {
+    *value.pointer_mut(place).expect(rt, "it has the place") = part;
+}
+
 /// Returns the items of a list.
 pub(crate) fn items<'a>(rt: &impl Abort, list: &'a Value) -> &'a [Value] {
     list.as_array().expect(rt, "it is a list").as_slice()

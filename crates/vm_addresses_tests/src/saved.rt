@@ -4,7 +4,7 @@
 //! vm-allocator that is not read.
 use crate::fixtures::{
     ENOUGH, block_count, expect_eq, expect_space, fail_from_here, hold, holds_exactly, items, made,
-    parsed, range, saved,
+    parsed, put, range, saved,
 };
 use serde_json::Value;
 use std::fmt::Debug;

@@ -1,7 +1,10 @@
 //! Guards against recursion as deep as a value. tests/refused_memory runs the test on a small stack.
-use crate::fixtures::{Reader, chain, expect_refused, items, parsed, put};
+use crate::fixtures::{
+    ENOUGH, Reader, chain, expect_refused, expect_true, items, made, parsed, put,
+};
 use serde_json::Value;
 use std::process::Abort;
+use vm_allocator::{AddressAllocator, AllocPolicy};
 
 /// The nesting depth of a value.
 const DEPTH: u64 = 100_000;
@@ -106,4 +109,45 @@ fn deep_values_on_a_small_stack(rt: HostRuntime) {
         reject_with(&rt, chain(&rt, NODE, DEPTH, 0, side), side);
     }
     reject_with(&rt, deep_list(&rt), "/0");
+}
+
+/// A node with a wrong height.
+const FLAT_NODE: &str =
+    r#"{"key":{"start":0,"end":0},"node_state":"Allocated","left":null,"right":null,"height":0}"#;
+
+/// Returns a space of addresses that start at 0, each allocated. Its tree is a chain of nodes, each the right child of
+/// the one before.
+fn chained(rt: &(impl Abort + AllocGlobal), keys: u64) -> Value {
+    let last = keys.saturating_sub(1);
+    let text = r#"{"address_space":{"start":0,"end":0},"interval_tree":{"root":null}}"#;
+    let mut value = parsed(rt, text);
+    put(rt, &mut value, "/address_space/end", Value::from(last));
+    let nodes = chain(rt, FLAT_NODE, keys, last, "/right");
+    put(rt, &mut value, "/interval_tree/root", nodes);
+    value
+}
+
+#[test]
+fn chains_that_are_refused(rt: HostRuntime) {
+    for (keys, reader) in [
+        (50, Reader::Space),
+        (51, Reader::Space),
+        (51, Reader::Repaired),
+        (200, Reader::Space),
+        (200, Reader::Repaired),
+    ] {
+        expect_refused(&rt, reader, &chained(&rt, keys), &keys);
+    }
+}
+
+#[test]
+fn a_chain_of_fifty_nodes_repaired(rt: HostRuntime) {
+    let value = chained(&rt, 50);
+    let repaired = AddressAllocator::from_value_repaired(rt.alloc(), &value).expect(&rt, ENOUGH);
+    let mut full = made(&rt, 0, 50);
+    for address in 0..50 {
+        let answer = full.allocate(rt.alloc(), 1, 1, AllocPolicy::FirstMatch);
+        expect_true(&rt, answer.is_ok(), address);
+    }
+    expect_true(&rt, repaired == full, "the same ranges");
 }

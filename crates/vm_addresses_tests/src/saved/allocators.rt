@@ -44,6 +44,53 @@ fn spaces_as_written(rt: HostRuntime) {
     assert!(rt; saved(&rt, &full) == all_held);
 }
 
+/// Checks that a value does not encode an allocator after changes: each is a path, and the text of its new part.
+fn expect_refused_with(rt: &(impl Abort + AllocGlobal), text: &str, changes: &[(&str, &str)]) {
+    let mut value = parsed(rt, text);
+    for (place, part) in changes {
+        put(rt, &mut value, place, parsed(rt, part));
+    }
+    expect_no_state(rt, read(rt, &value), &changes);
+}
+
+/// Two free blocks that are not joined.
+const TWO_FREE: &str = r#"{"key":{"start":16,"end":17},"node_state":"Free","left":null,
+    "right":{"key":{"start":18,"end":19},"node_state":"Free","left":null,"right":null,"height":1},
+    "height":2}"#;
+
+/// A node with another field.
+const ANOTHER_FIELD: &str = r#"{"key":{"start":16,"end":19},"node_state":"Free","left":null,"right":null,
+    "height":1,"max_free":4}"#;
+
+#[test]
+fn a_fresh_space_with_a_wrong_part(rt: HostRuntime) {
+    for (place, part) in [
+        ("/interval_tree/root/height", "2"),
+        ("/interval_tree/root", ANOTHER_FIELD),
+        ("/interval_tree", r#"{"root":null,"height":1}"#),
+        ("/address_space", r#"{"start":16,"end":19,"len":4}"#),
+        ("/interval_tree/root", "null"),
+        ("/interval_tree/root", TWO_FREE),
+    ] {
+        expect_refused_with(&rt, FRESH, &[(place, part)]);
+    }
+}
+
+/// One allocated range, with a gap or an overlap before it, with two free neighbours, and in a longer space.
+#[test]
+fn one_range_with_a_wrong_part(rt: HostRuntime) {
+    let (root, left) = ("/interval_tree/root/node_state", "/interval_tree/root/left/node_state");
+    let exchanged = &[(root, r#""Free""#), (left, r#""Allocated""#)];
+    expect_refused_with(&rt, ONE_HELD, exchanged);
+    for (place, part) in [
+        ("/interval_tree/root/left/key/end", "1278"),
+        ("/interval_tree/root/left/key/end", "1280"),
+        ("/address_space/end", "4096"),
+    ] {
+        expect_refused_with(&rt, ONE_HELD, &[(place, part)]);
+    }
+}
+
 #[test]
 fn ranges_and_states(rt: HostRuntime) {
     let range = range(&rt, 16, 19);

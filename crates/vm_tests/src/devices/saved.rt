@@ -2,7 +2,7 @@
 //!
 //! They guard against a format with another meaning than its documentation.
 use super::*;
-use crate::fixtures::parsed;
+use crate::fixtures::{Reader, expect_refused, parsed, put};
 
 /// The ids [0, 1] and the space [4096, 8191]. A device has id 0 and [4096, 6143].
 const ONE_DEVICE: &str = r#"{"version":1,
@@ -46,6 +46,28 @@ const NO_DEVICE: &str = r#"{"version":1,
     "key":{"start":4096,"end":8191},"node_state":"Free","left":null,"right":null,"height":1}}},
     "slots":[]}"#;
 
+/// One device again. The node of its range is the root, which `to_value` does not write.
+const HELD_ROOT: &str = r#"{"version":1,
+    "id_allocator":{"range_base":0,"next_id":1,"range_end":1,"freed_ids":[]},
+    "mmio_allocator":{"address_space":{"start":4096,"end":8191},"interval_tree":{"root":{
+    "key":{"start":4096,"end":6143},"node_state":"Allocated","left":null,
+    "right":{"key":{"start":6144,"end":8191},"node_state":"Free","left":null,"right":null,"height":1},
+    "height":2}}},
+    "slots":[{"id":0,"mmio_range":{"start":4096,"end":6143}}]}"#;
+
+/// The same, with another field.
+const ANOTHER_FIELD: &str = r#"{"version":1,
+    "id_allocator":{"range_base":0,"next_id":1,"range_end":1,"freed_ids":[]},
+    "mmio_allocator":{"address_space":{"start":4096,"end":8191},"interval_tree":{"root":{
+    "key":{"start":4096,"end":6143},"node_state":"Allocated","left":null,
+    "right":{"key":{"start":6144,"end":8191},"node_state":"Free","left":null,"right":null,"height":1},
+    "height":2}}},
+    "slots":[{"id":0,"mmio_range":{"start":4096,"end":6143}}],"devices":1}"#;
+
+/// Two devices, the second with the range that is free.
+const TWO_SLOTS: &str = r#"[{"id":0,"mmio_range":{"start":4096,"end":6143}},
+    {"id":1,"mmio_range":{"start":6144,"end":8191}}]"#;
+
 /// Returns the manager that a text encodes. It is written like this again.
 fn read(rt: &(impl Abort + AllocGlobal), text: &str) -> DeviceManager {
     let value = parsed(rt, text);
@@ -87,4 +109,41 @@ fn devices_that_values_state(rt: HostRuntime) {
     expect_manager(&rt, TWO_DEVICES, both);
     expect_manager(&rt, TWO_CROSSED, crossed);
     expect_manager(&rt, NO_DEVICE, none);
+}
+
+#[test]
+fn a_manager_with_its_range_in_the_root(rt: HostRuntime) {
+    let value = parsed(&rt, HELD_ROOT);
+    let answer = DeviceManager::from_value(rt.alloc(), &value);
+    let mut devices = answer.expect(&rt, HELD_ROOT);
+    let rows = &[
+        (LookUp(0), Device(0, 4096, 6143)),
+        (First(1, 1), Device(1, 6144, 6144)),
+    ];
+    replay(&rt, &mut devices, rows);
+}
+
+/// Checks that the value of a text does not encode a manager after a change, by its path and the text of the new part.
+fn expect_refused_with(rt: &(impl Abort + AllocGlobal), text: &str, place: &str, part: &str) {
+    let mut value = parsed(rt, text);
+    put(rt, &mut value, place, parsed(rt, part));
+    expect_refused(rt, Reader::Manager, &value, &(place, part));
+}
+
+#[test]
+fn a_manager_with_a_wrong_part(rt: HostRuntime) {
+    for (place, part) in [
+        ("/version", "2"),
+        ("/slots", "[]"),
+        ("/slots/0/id", "1"),
+        ("/slots/0/mmio_range/end", "6142"),
+        ("/slots", TWO_SLOTS),
+    ] {
+        expect_refused_with(&rt, HELD_ROOT, place, part);
+    }
+    let one_more = parsed(&rt, ANOTHER_FIELD);
+    expect_refused(&rt, Reader::Manager, &one_more, &ANOTHER_FIELD);
+    // Two devices with the same range.
+    let first = r#"{"start":4096,"end":6143}"#;
+    expect_refused_with(&rt, TWO_DEVICES, "/slots/1/mmio_range", first);
 }
