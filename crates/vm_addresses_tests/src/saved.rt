@@ -3,8 +3,8 @@
 //! They guard against a format with another meaning than its documentation, and against a value of
 //! vm-allocator that is not read.
 use crate::fixtures::{
-    ENOUGH, block_count, expect_eq, expect_space, fail_from_here, hold, holds_exactly, items, made,
-    parsed, put, range, saved,
+    ENOUGH, block_count, expect_eq, expect_space, expect_true, fail_from_here, full_leaf, hold,
+    holds_exactly, items, made, parsed, put, range, saved,
 };
 use serde_json::Value;
 use std::fmt::Debug;
@@ -13,6 +13,7 @@ use vm_allocator::allocation_engine::NodeState;
 use vm_allocator::{AddressAllocator, RangeInclusive, ValueError};
 
 mod allocators;
+mod in_turn;
 mod repaired;
 mod snapshots;
 mod without_memory;

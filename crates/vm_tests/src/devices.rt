@@ -11,6 +11,7 @@ use vm_allocator::{AllocPolicy, Constraint, Error, IdRequest, RangeInclusive, Re
 use vm_devices::DeviceManager;
 
 mod fields;
+mod in_turn;
 mod saved;
 mod uses;
 mod without_memory;

@@ -9,7 +9,12 @@ fn many_held(rt: &(impl Abort + AllocGlobal)) -> AddressAllocator {
     let mut space = made(rt, 0, 0x1000);
     for number in 0..20u64 {
         hold(rt, &mut space, number.saturating_mul(2), 1);
-        hold(rt, &mut space, number.saturating_mul(2).saturating_add(0x800), 1);
+        hold(
+            rt,
+            &mut space,
+            number.saturating_mul(2).saturating_add(0x800),
+            1,
+        );
     }
     space
 }
@@ -107,7 +112,12 @@ fn test_tree_insert_balanced(rt: HostRuntime) {
     ];
     let mut space = many_held(&rt);
     replay_balanced(&rt, &mut space, rows);
-    let left = &[(0x100, 0x110), (0x311, 0x33F), (0x340, 0x34F), (0x350, 0x360)];
+    let left = &[
+        (0x100, 0x110),
+        (0x311, 0x33F),
+        (0x340, 0x34F),
+        (0x350, 0x360),
+    ];
     expect_others(&rt, &mut space, left);
 }
 

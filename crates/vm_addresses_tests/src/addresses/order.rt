@@ -50,11 +50,7 @@ fn hold_each(rt: &(impl Abort + AllocGlobal), space: &mut AddressAllocator, last
 }
 
 /// Frees ranges of one address in turn.
-fn free_each(
-    rt: &(impl Abort + AllocGlobal),
-    space: &mut AddressAllocator,
-    addresses: &[u64],
-) {
+fn free_each(rt: &(impl Abort + AllocGlobal), space: &mut AddressAllocator, addresses: &[u64]) {
     for address in addresses {
         let row = (Free(*address, *address), Range(*address, *address));
         replay(rt, space, &[row]);

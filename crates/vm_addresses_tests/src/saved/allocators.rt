@@ -59,7 +59,8 @@ const TWO_FREE: &str = r#"{"key":{"start":16,"end":17},"node_state":"Free","left
     "height":2}"#;
 
 /// A node with another field.
-const ANOTHER_FIELD: &str = r#"{"key":{"start":16,"end":19},"node_state":"Free","left":null,"right":null,
+const ANOTHER_FIELD: &str =
+    r#"{"key":{"start":16,"end":19},"node_state":"Free","left":null,"right":null,
     "height":1,"max_free":4}"#;
 
 #[test]
@@ -79,7 +80,10 @@ fn a_fresh_space_with_a_wrong_part(rt: HostRuntime) {
 /// One allocated range, with a gap or an overlap before it, with two free neighbours, and in a longer space.
 #[test]
 fn one_range_with_a_wrong_part(rt: HostRuntime) {
-    let (root, left) = ("/interval_tree/root/node_state", "/interval_tree/root/left/node_state");
+    let (root, left) = (
+        "/interval_tree/root/node_state",
+        "/interval_tree/root/left/node_state",
+    );
     let exchanged = &[(root, r#""Free""#), (left, r#""Allocated""#)];
     expect_refused_with(&rt, ONE_HELD, exchanged);
     for (place, part) in [

@@ -3,7 +3,8 @@
 //! They guard against a format with another meaning than its documentation, against a value of
 //! vm-allocator that is not read, and against a check of a value that allocates.
 use super::*;
-use crate::fixtures::items;
+use crate::fixtures::{ENOUGH, items};
+use serde_json::Value;
 use vm_ranges::ValueError;
 
 #[test]
@@ -89,4 +90,45 @@ fn ids_of_the_other_crate(rt: HostRuntime) {
         expect_eq(&rt, ids.is_allocated(id), held, id);
     }
     assert!(rt; saved_ids(&rt, &ids) == value);
+}
+
+/// Reads, writes and clones.
+fn use_each_call(rt: &(impl Abort + AllocGlobal), value: &Value, ids: &IdAllocator) {
+    fail_from_here(rt.alloc());
+    let is_read = match IdAllocator::from_value(rt.alloc(), value) {
+        Ok(again) => again == *ids,
+        Err(error) => error == ValueError::OutOfMemory,
+    };
+    expect_true(rt, is_read, "read");
+    let is_written = match ids.to_value(rt.alloc()) {
+        Ok(again) => again == *value,
+        Err(error) => error == Error::OutOfMemory,
+    };
+    expect_true(rt, is_written, "written");
+    let is_cloned = match ids.try_clone(rt.alloc()) {
+        Ok(clone) => clone == *ids,
+        Err(error) => error == Error::OutOfMemory,
+    };
+    expect_true(rt, is_cloned, "cloned");
+}
+
+/// tests/refused_memory makes each allocation after `fail_from_here` fail in turn.
+#[test]
+fn saved_and_cloned_in_turn(rt: HostRuntime) {
+    let value = parsed(&rt, IDS);
+    let ids = IdAllocator::from_value(rt.alloc(), &value).expect(&rt, ENOUGH);
+    use_each_call(&rt, &value, &ids);
+}
+
+/// The first freed id allocates a list. If memory runs out, the id stays allocated.
+#[test]
+fn freed_in_turn(rt: HostRuntime) {
+    let mut ids = made(&rt, 5, 9);
+    replay(&rt, &mut ids, &[TakeAll(5, 6)]);
+    fail_from_here(rt.alloc());
+    if ids.free_id(5) == Err(Error::OutOfMemory) {
+        replay(&rt, &mut ids, &[Holds(5, true), Count(2), Free(5, Id(5))]);
+    }
+    let calls = &[Holds(5, false), Count(1), Allocate(Id(5)), Allocate(Id(7))];
+    replay(&rt, &mut ids, calls);
 }

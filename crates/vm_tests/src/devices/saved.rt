@@ -112,6 +112,18 @@ fn devices_that_values_state(rt: HostRuntime) {
 }
 
 #[test]
+fn a_manager_written(rt: HostRuntime) {
+    let mut devices = made(&rt, (0, 1), 4096, 4096);
+    replay(
+        &rt,
+        &mut devices,
+        &[(First(2048, 2048), Device(0, 4096, 6143))],
+    );
+    let saved = devices.to_value(rt.alloc()).expect(&rt, ENOUGH);
+    expect_true(&rt, saved == parsed(&rt, ONE_DEVICE), ONE_DEVICE);
+}
+
+#[test]
 fn a_manager_with_its_range_in_the_root(rt: HostRuntime) {
     let value = parsed(&rt, HELD_ROOT);
     let answer = DeviceManager::from_value(rt.alloc(), &value);
