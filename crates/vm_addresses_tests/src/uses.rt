@@ -9,6 +9,7 @@ ghost use Rattle.vm_allocator.specs.Allocator.{state_of, made_state};
 ghost use Rattle.vm_allocator.specs.Answer.{FillsGap};
 ghost use Rattle.vm_allocator.specs.Comparison.{state_cmp};
 ghost use Rattle.vm_allocator.specs.Conflicts.{ConflictDecides};
+ghost use Rattle.vm_allocator.specs.Counts.GapSearch.{SearchesGaps};
 ghost use Rattle.vm_allocator.specs.Counts.Steps.{EntersToAllocate};
 ghost use Rattle.vm_allocator.specs.Moves.{MovesRange};
 ghost use Rattle.vm_allocator.specs.Queries.{block_parts};
@@ -19,6 +20,7 @@ ghost use Rattle.serde_json.specs.View.{view};
 ghost use Rattle.vm_allocator.specs.RangeValues.{EncodesRange};
 ghost use Rattle.vm_allocator.specs.Request.{request_for, MakesConstraint, MakesLimits};
 ghost use Rattle.vm_allocator.specs.Saving.{Reads};
+ghost use Rattle.vm_allocator.specs.Values.AllocatorValues.{EncodesRepaired};
 ghost use Rattle.vm_allocator.specs.Values.NodesRead.{EndsNode, MakesOfNodes};
 ghost use Rattle.vm_allocator.specs.Values.SavedTrees.{HasHeldKeys, HasTreeOf};
 
@@ -52,6 +54,13 @@ fn read(alloc: Global, value: &Value) -> std::result::Result<RangeInclusive, Val
     ensures { Reads (EncodesRange (view value.now)) result }
 {
     RangeInclusive::from_value(alloc, value)
+}
+
+/// Reads the allocator of a saved value with repairs.
+fn repaired(alloc: Global, value: &Value) -> std::result::Result<AddressAllocator, ValueError>
+    ensures { Reads (EncodesRepaired (view value.now)) (made_state result) }
+{
+    AddressAllocator::from_value_repaired(alloc, value)
 }
 
 /// Creates a request for a range at `start`.
@@ -115,6 +124,22 @@ fn entered(alloc: Global, space: &mut AddressAllocator, size: u64) -> u64
     space
         .allocate_counted(alloc, size, 1, AllocPolicy::LastMatch)
         .1
+}
+
+/// Allocates the lowest range. Returns the height of the tree before, the result, and the number of nodes that are
+/// entered.
+fn searched(
+    alloc: Global,
+    space: &mut AddressAllocator,
+    size: u64,
+    align: u64,
+) -> (u64, Result<RangeInclusive>, u64)
+    ensures { SearchesGaps result.0 (state_of space.old)
+        (request_for size align AllocPolicy.FirstMatch) result.1 result.2 }
+{
+    let height = space.height();
+    let (answer, count) = space.allocate_counted(alloc, size, align, AllocPolicy::FirstMatch);
+    (height, answer, count)
 }
 
 /// Moves a range.
@@ -211,6 +236,13 @@ fn uses_of_requests(rt: HostRuntime) {
     let high = upper_half(&rt);
     expect_eq(&rt, blocker(&space, high), None, "the upper half");
     expect_eq(&rt, entered(rt.alloc(), &mut space, 8), 1, "the same");
+    let low = (1, Ok(range(&rt, 0, 3)), 1);
+    expect_eq(
+        &rt,
+        searched(rt.alloc(), &mut space, 4, 2),
+        low,
+        "the start",
+    );
     let held = Conflict::Allocated(range(&rt, 8, 15));
     expect_eq(&rt, blocker(&space, high), Some(held), "it is not free");
     let all = allocate_each(rt.alloc(), &mut space, &[high]);
@@ -233,6 +265,8 @@ fn uses_of_lists(rt: HostRuntime) {
     let last = (range(&rt, 12, 15), NodeState::Free);
     expect_eq(&rt, parts(&space).next_back(), Some(last), "a gap");
     let other = made(&rt, 0, 16);
+    let saved = other.to_value(rt.alloc()).expect(&rt, ENOUGH);
+    expect_true(&rt, repaired(rt.alloc(), &saved).is_ok(), "a fresh space");
     expect_true(&rt, comes_first(&space, &other), "a shorter first gap");
 }
 

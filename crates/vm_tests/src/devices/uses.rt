@@ -1,5 +1,5 @@
 //! Callers of calls of devices. They guard against clauses from which a caller cannot prove what it needs.
-ghost use Rattle.std.specs.Prelude.{◌≡◌, IfOk};
+ghost use Rattle.std.specs.Prelude.{◌≡◌, false, IfOk};
 ghost use Rattle.serde_json.specs.View.{view};
 ghost use Rattle.vm_allocator.specs.Counts.Parts.{AllocatesInParts};
 ghost use Rattle.vm_devices.specs.Devices.{MovesDevice};
@@ -27,6 +27,15 @@ fn plug(
     ensures { AllocatesInParts (λ m. m.addresses) devices.old request result devices.new }
 {
     devices.reserve_with_id(alloc, IdRequest::Exact(id), request)
+}
+
+/// Plugs a device in. Returns `false` and changes nothing if there is no id or no range for it.
+fn plugged(alloc: Global, devices: &mut DeviceManager, size: u64) -> bool
+    ensures { result ≡ false → device_state devices.new ≡ device_state devices.old }
+{
+    devices
+        .reserve(alloc, size, 1, AllocPolicy::FirstMatch)
+        .is_ok()
 }
 
 /// Returns the device that has an address.
@@ -74,6 +83,7 @@ fn use_device(rt: &(impl Abort + AllocGlobal), devices: &mut DeviceManager) {
     let request = Constraint::new(0x1000, 1, AllocPolicy::FirstMatch).expect(rt, ENOUGH);
     let slot = plug(rt.alloc(), devices, 7, request).expect(rt, ENOUGH);
     expect_true(rt, owner(devices, 0xE000_0FFF) == Some(slot), &slot);
+    expect_true(rt, !plugged(rt.alloc(), devices, 0x2000), "no room");
     let stays = moved(rt.alloc(), devices, 7, request);
     expect_true(rt, stays == Ok(slot.range), &stays);
 }
