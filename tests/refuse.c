@@ -2,6 +2,8 @@
  * Makes allocations of a program fail. LD_PRELOAD loads it before the C
  * library.
  * - REFUSE_AFTER=SIZE fails each allocation after the first one of SIZE bytes.
+ * - REFUSE_ONLY=NUMBER fails only one of these, and each if it is 0. Numbers start
+ *   at 1.
  * - REFUSED=FILE: each failed allocation adds one byte to FILE.
  */
 #define _GNU_SOURCE
@@ -12,11 +14,20 @@
 #include <unistd.h>
 
 static int last_was_met;
+static unsigned long after;
+
+static unsigned long number_of(const char *name) {
+    const char *text = getenv(name);
+    return text ? strtoul(text, NULL, 10) : 0;
+}
 
 static int is_after_the_last(size_t size) {
-    const char *last = getenv("REFUSE_AFTER");
-    if (last_was_met) return 1;
-    last_was_met = last && strtoul(last, NULL, 10) == size;
+    if (last_was_met) {
+        unsigned long only = number_of("REFUSE_ONLY");
+        after++;
+        return only == 0 || only == after;
+    }
+    last_was_met = size != 0 && number_of("REFUSE_AFTER") == size;
     return 0;
 }
 
