@@ -1,4 +1,5 @@
-//! Guards against recursion as deep as a value. tests/refused_memory runs the test on a small stack.
+//! Guards against recursion as deep as a value, and against another limit on nested nodes. tests/refused_memory runs
+//! the test of the first on a small stack.
 use crate::fixtures::{
     ENOUGH, Reader, chain, expect_refused, expect_true, items, made, parsed, put,
 };

@@ -26,11 +26,29 @@ fn expect_order(
 #[test]
 fn a_fresh_space_compared(rt: HostRuntime) {
     let fresh = made(&rt, 0, 16);
-    expect_order(&rt, &fresh, &made(&rt, 0, 17), Ordering::Less, "a longer space");
+    expect_order(
+        &rt,
+        &fresh,
+        &made(&rt, 0, 17),
+        Ordering::Less,
+        "a longer space",
+    );
     let first_held = with_lowest(&rt, 16, 4);
-    expect_order(&rt, &first_held, &fresh, Ordering::Less, "a shorter first block");
+    expect_order(
+        &rt,
+        &first_held,
+        &fresh,
+        Ordering::Less,
+        "a shorter first block",
+    );
     let all_held = with_lowest(&rt, 16, 16);
-    expect_order(&rt, &all_held, &fresh, Ordering::Greater, "an allocated block");
+    expect_order(
+        &rt,
+        &all_held,
+        &fresh,
+        Ordering::Greater,
+        "an allocated block",
+    );
 }
 
 /// Returns the allocator of [0, 7] with [1, 1] and [6, 6] allocated, by two calls.
