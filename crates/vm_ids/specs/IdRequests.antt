@@ -55,17 +55,6 @@ unfoldable pub HoldsId : IdState → ℕ → Result ℕ Error → IdState → Ty
 HoldsId old i answer new =
     ((answer ≡ Ok i) × (new ≡ holding_id i old)) ⊎ (NeedsMemory old i × (answer ≡ Err OutOfMemory) × (new ≡ old))
 
--- The result of `allocate_exact`. An error changes nothing. The first condition that is true decides:
--- - OutOfRange if the id is not in the range.
--- - ResourceNotAvailable if the id is held.
--- - Otherwise the id is allocated, or the result is OutOfMemory.
-unfoldable pub AllocatesExactId : IdState → ℕ → Result ℕ Error → IdState → Type 0
-AllocatesExactId old i answer new =
-    let refused : Error → Type 0 = λ e. (answer ≡ Err e) × (new ≡ old) in
-    Unless (IsOfRange old i) (refused (OutOfRange i)) (
-    IfElse (IsHeld old i) (refused ResourceNotAvailable)
-    (HoldsId old i answer new))
-
 -- The id i is in the range, from first to last, and not held.
 abbrev pub IsNotHeldIn : ℕ → ℕ → IdState → ℕ → Type 0
 IsNotHeldIn first last state i = (first ≤ i) × (i ≤ last) × IsNotHeld state i
@@ -79,19 +68,15 @@ IsLowestNotHeldIn first last state i =
 unfoldable pub IsNoneNotHeldIn : ℕ → ℕ → IdState → Type 0
 IsNoneNotHeldIn first last state = (i : ℕ) → ¬ IsNotHeldIn first last state i
 
--- The result of `allocate_in` for the ids from first to last. An error changes nothing. The first condition that is
--- true decides:
+-- The result of `peek`. For the lowest id, it is the result of `peek_id`. For the ids from first to last, the first
+-- condition that is true decides:
 -- - InvalidRange if last is below first.
 -- - ResourceNotAvailable if no id there is in the range and not held.
--- - Otherwise the lowest of them is allocated, or the result is OutOfMemory.
-unfoldable pub AllocatesIdIn : IdState → ℕ → ℕ → Result ℕ Error → IdState → Type 0
-AllocatesIdIn old first last answer new =
-    let refused : Error → Type 0 = λ e. (answer ≡ Err e) × (new ≡ old) in
-    IfElse (last < first) (refused (InvalidRange first last)) (
-    (IsNoneNotHeldIn first last old × refused ResourceNotAvailable)
-    ⊎ ((i : ℕ) × IsLowestNotHeldIn first last old i × HoldsId old i answer new))
-
--- The result of `peek`: the result of `peek_id`, or that of `allocate_in` or `allocate_exact` if memory suffices.
+-- - Otherwise the lowest of them.
+-- For a given id, the first condition that is true decides:
+-- - OutOfRange if the id is not in the range.
+-- - ResourceNotAvailable if the id is held.
+-- - Otherwise the id.
 unfoldable pub Peeks : IdState → IdRequest → Result ℕ Error → Type 0
 Peeks state Lowest answer = PeeksId state answer
 Peeks state (LowestIn first last) answer =
@@ -101,6 +86,21 @@ Peeks state (LowestIn first last) answer =
 Peeks state (Exact i) answer =
     Unless (IsOfRange state i) (answer ≡ Err (OutOfRange i)) (
     IfElse (IsHeld state i) (answer ≡ Err ResourceNotAvailable) (answer ≡ Ok i))
+
+-- The result of a call that allocates the id of a request. If `peek` returns an id, it is allocated, or the result is
+-- OutOfMemory. If `peek` returns an error, this error is the result. An error changes nothing.
+unfoldable pub AllocatesPeeked : IdState → IdRequest → Result ℕ Error → IdState → Type 0
+AllocatesPeeked old request answer new =
+    ((i : ℕ) × Peeks old request (Ok i) × HoldsId old i answer new)
+    ⊎ ((e : Error) × Peeks old request (Err e) × (answer ≡ Err e) × (new ≡ old))
+
+-- The result of `allocate_exact`.
+abbrev pub AllocatesExactId : IdState → ℕ → Result ℕ Error → IdState → Type 0
+AllocatesExactId old i answer new = AllocatesPeeked old (Exact i) answer new
+
+-- The result of `allocate_in` for the ids from first to last.
+abbrev pub AllocatesIdIn : IdState → ℕ → ℕ → Result ℕ Error → IdState → Type 0
+AllocatesIdIn old first last answer new = AllocatesPeeked old (LowestIn first last) answer new
 
 -- The result of `allocate_ids`. An error changes nothing. If fewer than `count` ids are free, the error is the one of
 -- `allocate_id` if all ids are held. Otherwise the `count` lowest free ids are allocated, or the result is OutOfMemory.

@@ -55,11 +55,10 @@ use Rattle.vm_ids.specs.IdRequests.{
   free_ids,
   holding_ids,
   HoldsId,
-  AllocatesExactId,
+  AllocatesPeeked,
   IsNotHeldIn,
   IsLowestNotHeldIn,
   IsNoneNotHeldIn,
-  AllocatesIdIn,
   AllocatesIds,
   fault_of_held,
   SkipsId,
@@ -135,38 +134,34 @@ total_makes : (lo hi : ℕ) → (answer : Result IdState Error) × MakesIds lo h
 unfolding MakesIds
 total_makes lo hi = (if ltb hi lo then Err (InvalidRange lo hi) else Ok (new_ids lo hi), grind arith, grind arith)
 
-exact_of : IdState → ℕ → Result ℕ Error × IdState
-exact_of old id =
-    if not (leb old.lo id && leb id old.hi) then (Err (OutOfRange id), old) else
-    if set.contains old.held id then (Err ResourceNotAvailable, old) else (Ok id, holding_id id old)
-
-total_exact : (old : IdState) (id : ℕ) → Answered (AllocatesExactId old id)
-unfolding AllocatesExactId HoldsId exact_of
-total_exact old id = let r = exact_of old id in (r.0, r.1, grind arith, grind arith)
-
-total_within : (old : IdState) (first last : ℕ) → Answered (AllocatesIdIn old first last)
-unfolding AllocatesIdIn HoldsId IsLowestNotHeldIn IsNoneNotHeldIn
-total_within old first last =
-    ⊎_elim
-    (λ (below : last < first). (Err (InvalidRange first last), old, grind arith, λ h. absurd (cc h)))
-    (λ (order : first ≤ last).
-    ⊎_elim
-    (λ none.
-    (Err ResourceNotAvailable, old, inr (λ h. omega arith, inl (λ i h. grind (arith, none i), (refl, refl))), λ h. absurd (cc h)))
-    (λ found. (
-      Ok found.0,
-      holding_id found.0 old,
-      inr (λ h. omega arith, inr (found.0, (found.1, found.2), inl (refl, refl))),
-      λ h. absurd (cc h),
-    ))
-    (lowest_or_none (IsNotHeldIn first last old) (decided_within first last old) (last + 1)))
-    (cases_lt last first)
+exact_of : IdState → ℕ → Result ℕ Error
+exact_of state id =
+    if not (leb state.lo id && leb id state.hi) then Err (OutOfRange id) else
+    if set.contains state.held id then Err ResourceNotAvailable else Ok id
 
 total_peeks_for : (state : IdState) (request : IdRequest) → (answer : Result ℕ Error) × Peeks state request answer × (answer ≢ Err OutOfMemory)
-unfolding Peeks AllocatesIdIn AllocatesExactId HoldsId
+unfolding Peeks IsLowestNotHeldIn IsNoneNotHeldIn exact_of
 total_peeks_for state Lowest = total_peeks state
-total_peeks_for state (LowestIn first last) = let a = total_within state first last in (a.0, grind (arith, a.2, a.3), a.3)
-total_peeks_for state (Exact id) = let a = total_exact state id in (a.0, grind (arith, a.2, a.3), a.3)
+total_peeks_for state (LowestIn first last) =
+    ⊎_elim
+    (λ (below : last < first). (Err (InvalidRange first last), inl (below, refl), λ h. absurd (cc h)))
+    (λ (order : first ≤ last).
+    ⊎_elim
+    (λ none. (Err ResourceNotAvailable, inr (λ h. omega arith, inl (λ i h. grind (arith, none i), refl)), λ h. absurd (cc h)))
+    (λ found. (Ok found.0, inr (λ h. omega arith, inr (found.0, (found.1, found.2), refl)), λ h. absurd (cc h)))
+    (lowest_or_none (IsNotHeldIn first last state) (decided_within first last state) (last + 1)))
+    (cases_lt last first)
+total_peeks_for state (Exact id) = (exact_of state id, grind arith, grind arith)
+
+-- If memory suffices, a call that allocates the id of a request has the result of `peek`.
+as_if_peeked : (old : IdState) (request : IdRequest) (peeked : Result ℕ Error) → Peeks old request peeked → peeked ≢ Err OutOfMemory →
+    Answered (AllocatesPeeked old request)
+unfolding AllocatesPeeked HoldsId
+as_if_peeked old request (Ok id) p n = (Ok id, holding_id id old, inl (id, p, inl (refl, refl)), n)
+as_if_peeked old request (Err e) p n = (Err e, old, inr (e, p, refl, refl), n)
+
+total_allocates_peeked : (old : IdState) (request : IdRequest) → Answered (AllocatesPeeked old request)
+total_allocates_peeked old request = let a = total_peeks_for old request in as_if_peeked old request a.0 a.1 a.2
 
 several_of : IdState → ℕ → Result (List ℕ) Error × IdState
 several_of old count =
@@ -201,8 +196,8 @@ total_makes_with_held lo hi held =
 
 total_call : EveryCallIsAnswered IsIdCallFrom
 total_call old Allocate = total_allocates old
-total_call old (AllocateExact id) = total_exact old id
-total_call old (AllocateIn first last) = total_within old first last
+total_call old (AllocateExact id) = total_allocates_peeked old (Exact id)
+total_call old (AllocateIn first last) = total_allocates_peeked old (LowestIn first last)
 total_call old (AllocateSeveral count) = total_several old count
 total_call old (Free id) = total_frees old id
 total_call old Clone = (Ok old, old, (inl refl, refl), λ h. absurd (cc h))

@@ -44,7 +44,7 @@ use Rattle.std.specs.Ordering.{eq_by_cmp}
 use Rattle.std.proofs.lemmas.List.Folds.{list_any-append}
 use Rattle.vm_chunks.specs.Runs.{Removes, IsInside}
 use Rattle.vm_ids.specs.Ids.{MAX_ID, IdState, IsOfRange, WasEverAllocated, IsHeld, IsNotHeld, IsIdState, holding_id, bound_of, ids_of, IsNext, AreIds}
-use Rattle.vm_ids.specs.IdRequests.{IsFreed, NeedsMemory, HoldsId, AllocatesExactId}
+use Rattle.vm_ids.specs.IdRequests.{IsFreed, NeedsMemory, HoldsId, Peeks, AllocatesPeeked, AllocatesExactId}
 use Rattle.vm_ranges.specs.declared.error.Error.{Error}
 use Rattle.vm_ranges.specs.declared.error.Error.TheVariants.{OutOfRange, ResourceNotAvailable, OutOfMemory}
 use Rattle.vm_ids.proofs.Ids.IdSets.{row_test, tests, inserted_test, same_state, bound_above}
@@ -138,46 +138,41 @@ holding_in_range old n s o = record {
 
 -- ---- The cases of `allocate_exact`
 pub exact_outside : (old : IdState) (k : ℕ) → (IsOfRange old k → ⊥) → AllocatesExactId old k (Err (OutOfRange k)) old
-unfolding AllocatesExactId
-exact_outside old k n = inl (n, (refl, refl))
+unfolding AllocatesPeeked Peeks
+exact_outside old k n = inr (OutOfRange k, inl (n, refl), refl, refl)
 
 pub exact_new : (old new : IdState) (k : ℕ) (r : Result ℕ Error) → IsOfRange old k → ¬ IsHeld old k → HoldsId old k r new →
     AllocatesExactId old k r new
-unfolding AllocatesExactId
-exact_new old new k r o n h = inr (o, inr (n, h))
+unfolding AllocatesPeeked Peeks
+exact_new old new k r o n h = inl (k, inr (o, inr (n, refl)), h)
 
 module _ (old : IdState) (lo hi k : ℕ) (next : Option ℕ) (freed left : BTreeSet ℕ) (e : ids_of lo hi next freed ≡ old) where
   pub exact_freed : AreIds lo hi next freed → IsOfRange old k → IsTrue (contains nat_cmp freed k) → Removes k freed left →
       AllocatesExactId old k (Ok k) (ids_of lo hi next left)
-  unfolding AllocatesExactId HoldsId
+  unfolding HoldsId
   exact_freed a o t u =
-      inr (o, inr (holds_not old lo hi next freed e k t, inl (refl, takes_released lo hi k next freed left a t u ∙ ap (holding_id k) e)))
+      exact_new old _ k (Ok k) o (holds_not old lo hi next freed e k t)
+      (inl (refl, takes_released lo hi k next freed left a t u ∙ ap (holding_id k) e))
 
   -- An id between two freed ids can be out of memory.
   pub exact_no_memory : AreIds lo hi next freed → IsOfRange old k → IsInside k freed → left ≡ freed →
       AllocatesExactId old k (Err OutOfMemory) (ids_of lo hi next left)
-  unfolding AllocatesExactId HoldsId ids_of
+  unfolding HoldsId ids_of
   exact_no_memory a o n same =
-      inr (
-        o,
-        inr (
-          holds_not old lo hi next freed e k n.own,
-          inr (
-            inr (n.first, freed_there (k - 1) (a.freed_ids (k - 1) n.below) n.below, freed_there (k + 1) (a.freed_ids (k + 1) n.above) n.above),
-            refl,
-            takes_same lo hi next freed left same ∙ e,
-          ),
-        ),
-      )
+      exact_new old _ k (Err OutOfMemory) o (holds_not old lo hi next freed e k n.own) (inr (
+        inr (n.first, freed_there (k - 1) (a.freed_ids (k - 1) n.below) n.below, freed_there (k + 1) (a.freed_ids (k + 1) n.above) n.above),
+        refl,
+        takes_same lo hi next freed left same ∙ e,
+      ))
     where
       freed_there : (i : ℕ) → (lo ≤ i) × (i < bound_of next hi) → IsTrue (contains nat_cmp freed i) → IsFreed old i
       freed_there i w t = (rw (← e) w, holds_not old lo hi next freed e i t)
 
   pub exact_taken : IsOfRange old k → WasEverAllocated old k → contains nat_cmp freed k ≡ false → left ≡ freed →
       AllocatesExactId old k (Err ResourceNotAvailable) (ids_of lo hi next left)
-  unfolding AllocatesExactId
+  unfolding AllocatesPeeked Peeks
   exact_taken o w f same =
-      inr (o, inl (holds old lo hi next freed e k w f, (refl, takes_same lo hi next freed left same ∙ e)))
+      inr (ResourceNotAvailable, inr (o, inl (holds old lo hi next freed e k w f, refl)), refl, takes_same lo hi next freed left same ∙ e)
 
 pub keeps_less : (lo hi k : ℕ) (next : Option ℕ) (freed left : BTreeSet ℕ) → AreIds lo hi next freed → Removes k freed left →
     AreIds lo hi next left
@@ -191,19 +186,19 @@ keeps_less lo hi k next freed left a u = record {
 -- ---- Facts of each result
 module _ (old new : IdState) (k : ℕ) (r : Result ℕ Error) (h : AllocatesExactId old k r new) where
   pub exact_state : IfOk r (λ i. (i ≡ k) × (new ≡ holding_id k old))
-  unfolding AllocatesExactId HoldsId
+  unfolding AllocatesPeeked Peeks HoldsId
   exact_state = grind arith
 
   pub exact_was_free : IfOk r (λ i. IsNotHeld old i)
-  unfolding AllocatesExactId HoldsId
+  unfolding AllocatesPeeked Peeks HoldsId
   exact_was_free = grind arith
 
   pub exact_succeeds : IsNotHeld old k → ¬ NeedsMemory old k → r ≡ Ok k
-  unfolding AllocatesExactId HoldsId
+  unfolding AllocatesPeeked Peeks HoldsId
   exact_succeeds = grind arith
 
   pub exact_unchanged : OnErr r (new ≡ old)
-  unfolding AllocatesExactId HoldsId
+  unfolding AllocatesPeeked Peeks HoldsId
   exact_unchanged = grind arith
 
 pub ruleset exact = (

@@ -67,7 +67,9 @@ use Rattle.vm_ids.specs.Ids.{
 use Rattle.vm_ids.specs.IdRequests.{
   free_ids,
   holding_ids,
+  Peeks,
   HoldsId,
+  AllocatesPeeked,
   AllocatesExactId,
   IsLowestNotHeldIn,
   AllocatesIdIn,
@@ -90,7 +92,7 @@ use Rattle.vm_ranges.specs.declared.error.Error.TheVariants.{OutOfMemory}
 use Rattle.vm_ids.proofs.Ids.IdSets.{inserted_test, removed_test, same_state}
 use Rattle.vm_ids.proofs.Ids.IdResults.{lowest_is_held, allocated_ids, made_ids, freed_ids_state}
 use Rattle.vm_ids.proofs.Ids.EveryIdCall.{lowest_or_all}
-use Rattle.vm_ids.proofs.Ids.ExactIds.{holding_in_range, exact_state, exact_was_free}
+use Rattle.vm_ids.proofs.Ids.ExactIds.{holding_in_range, exact_new, exact_state, exact_was_free}
 use Rattle.vm_ids.proofs.Ids.FreeIds.{free_test, free_rise, lowest_first, holding_more, ids_taken, several_state}
 use Rattle.vm_ids.proofs.Ids.AscendingBounds.{rises_below}
 use Rattle.vm_ids.proofs.Ids.WithHeld.{made_state, right_from}
@@ -269,12 +271,12 @@ exact_is_as_single old new id s h =
 
 -- ---- An id of a window
 window_exact : (old new : IdState) (first last id : ℕ) → AllocatesIdIn old first last (Ok id) new → AllocatesExactId old id (Ok id) new
-unfolding AllocatesIdIn HoldsId IsLowestNotHeldIn AllocatesExactId
+unfolding AllocatesPeeked Peeks HoldsId IsLowestNotHeldIn
 window_exact old new first last id h = grind arith
 
 window_whole : (old new : IdState) (first last id : ℕ) → first ≤ old.lo → old.hi ≤ last → AllocatesIdIn old first last (Ok id) new →
     AllocatesId old (Ok id) new
-unfolding AllocatesIdIn HoldsId IsLowestNotHeldIn AllocatesId ByLowestNotHeld IsLowestNotHeld
+unfolding AllocatesPeeked Peeks HoldsId IsLowestNotHeldIn AllocatesId ByLowestNotHeld IsLowestNotHeld
 window_whole old new first last id l h a =
     let f : IsLowestNotHeldIn first last old id × (new ≡ holding_id id old) = grind arith in
     inl (id, (f.0.0.2, λ k n. grind (arith, f.0.1 k)), (refl, f.1))
@@ -285,14 +287,14 @@ windows_of_ids = record { exact = window_exact; whole = window_whole }
 -- ---- Held ids
 held_in_turn : (held : List ℕ) (lo hi next : ℕ) (s : IdState) → IsIdState s → lo ≡ s.lo → hi ≡ s.hi → next ≡ s.bound →
     fault_of_held lo hi next held ≡ None → AllocatesExactlyInTurn s held (holding_ids held s) × IsIdState (holding_ids held s)
-unfolding AllocatesExactId HoldsId
+unfolding HoldsId
 held_in_turn [] lo hi next s v l h b f = (refl, v)
 held_in_turn (i ∷ is) lo hi next s v l h b f =
     let r = right_from lo hi next i is f in
     let range : (s.lo ≤ i) × (i ≤ s.hi) = omega (arith, r.range, l, h) in
     let bound : i + 1 ≡ max s.bound (i + 1) = omega (arith, r.order, b) in
     let takes : AllocatesExactId s i (Ok i) (holding_id i s) =
-    inr (range, inr (λ k. grind (arith, v.held i k, r.order, b), inl (refl, refl))) in
+    exact_new s _ i (Ok i) range (λ k. grind (arith, v.held i k, r.order, b)) (inl (refl, refl)) in
     let rest = held_in_turn is lo hi (i + 1) (holding_id i s) (holding_in_range s i v range) l h bound r.others in
     ((holding_id i s, takes, rest.0), rest.1)
 

@@ -1,9 +1,9 @@
 -- The lowest id between two others that is not held.
-use Rattle.std.proofs.Common.{◌≡◌, ℕ, ◌+◌, ◌<◌, ◌≤◌, ◌⊎◌, false, ap, arith, max, Option, Some, None, Result, Ok, Err, IfOk, IsOk, OnErr, nat_cmp}
+use Rattle.std.proofs.Common.{◌≡◌, ℕ, ◌+◌, ◌<◌, ◌≤◌, ◌⊎◌, false, refl, ap, arith, inr, max, Option, Some, None, Result, Ok, Err, IfOk, IsOk, OnErr, nat_cmp}
 use Rattle.std.specs.BTreeSet.{BTreeSet, contains}
 use Rattle.vm_ids.specs.Ids.{IdState, holding_id, bound_of, ids_of, AreIds}
 use Rattle.vm_ids.specs.declared.id_request.IdRequest.TheVariants.{LowestIn}
-use Rattle.vm_ids.specs.IdRequests.{Peeks, NeedsMemory, HoldsId, AllocatesExactId, IsLowestNotHeldIn, IsNoneNotHeldIn, AllocatesIdIn}
+use Rattle.vm_ids.specs.IdRequests.{Peeks, NeedsMemory, HoldsId, AllocatesPeeked, AllocatesExactId, IsLowestNotHeldIn, IsNoneNotHeldIn, AllocatesIdIn}
 use Rattle.vm_chunks.specs.Runs.{IsLowestFrom, HasNoneFrom}
 use Rattle.vm_ranges.specs.declared.error.Error.{Error}
 use Rattle.vm_ids.proofs.Ids.IdSets.{held_test, bound_fits, bound_above}
@@ -53,30 +53,30 @@ pub ruleset finds = (found_freed, found_next, none_without_next, none_past_last,
 -- ---- The cases of `allocate_in`
 pub in_refused : (old : IdState) (first last : ℕ) (e : Error) → Peeks old (LowestIn first last) (Err e) →
     AllocatesIdIn old first last (Err e) old
-unfolding AllocatesIdIn Peeks
-in_refused old first last e p = grind arith
+unfolding AllocatesPeeked
+in_refused old first last e p = inr (e, p, refl, refl)
 
 pub in_found : (old new : IdState) (first last i : ℕ) (r : Result ℕ Error) → Peeks old (LowestIn first last) (Ok i) →
     AllocatesExactId old i r new → AllocatesIdIn old first last r new
-unfolding AllocatesIdIn IsLowestNotHeldIn AllocatesExactId Peeks
+unfolding AllocatesPeeked Peeks IsLowestNotHeldIn
 in_found old new first last i r p h = grind arith
 
 -- ---- Facts of each result
 module _ (old new : IdState) (first last : ℕ) (r : Result ℕ Error) (h : AllocatesIdIn old first last r new) where
   pub in_lowest : IfOk r (λ id. IsLowestNotHeldIn first last old id)
-  unfolding AllocatesIdIn HoldsId
+  unfolding AllocatesPeeked Peeks HoldsId
   in_lowest = grind arith
 
   pub in_state : IfOk r (λ id. new ≡ holding_id id old)
-  unfolding AllocatesIdIn HoldsId
+  unfolding AllocatesPeeked Peeks HoldsId
   in_state = grind arith
 
   pub in_succeeds : (i : ℕ) → IsLowestNotHeldIn first last old i → ¬ NeedsMemory old i → IsOk r
-  unfolding AllocatesIdIn HoldsId IsLowestNotHeldIn IsNoneNotHeldIn
+  unfolding AllocatesPeeked Peeks HoldsId IsLowestNotHeldIn IsNoneNotHeldIn
   in_succeeds i f b = grind arith
 
   pub in_unchanged : OnErr r (new ≡ old)
-  unfolding AllocatesIdIn HoldsId
+  unfolding AllocatesPeeked Peeks HoldsId
   in_unchanged = grind arith
 
 pub ruleset within = (in_refused, in_found, in_lowest, in_state, in_succeeds, in_unchanged)

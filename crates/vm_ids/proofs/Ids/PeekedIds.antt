@@ -1,7 +1,7 @@
 -- The id that a request would allocate.
 use Rattle.std.proofs.Common.{◌≡◌, ℕ, ◌<◌, ◌≤◌, ◌⊎◌, ◌↔◌, refl, sym, ap, ◌∙◌, arith, inl, inr, ⊎_elim, Result, Ok, Err, IfOk}
 use Rattle.vm_ids.specs.Ids.{IdState, IsOfRange, IsHeld, IsNotHeld, IsLowestNotHeld, ByLowestNotHeld, AllocatesId, PeeksId, holding_id, releasing_id}
-use Rattle.vm_ids.specs.IdRequests.{Peeks, HoldsId, AllocatesExactId, AllocatesIdIn, IsLowestNotHeldIn, IsNoneNotHeldIn}
+use Rattle.vm_ids.specs.IdRequests.{Peeks, HoldsId, AllocatesPeeked, AllocatesExactId, IsLowestNotHeldIn, IsNoneNotHeldIn}
 use Rattle.vm_ids.specs.Laws.IdRequestLaws.{AllocatesFor, PeekedIsAllocated}
 use Rattle.vm_ids.specs.declared.id_request.IdRequest.{IdRequest}
 use Rattle.vm_ids.specs.declared.id_request.IdRequest.TheVariants.{Lowest, LowestIn, Exact}
@@ -62,7 +62,7 @@ lowest_peeked state id p = grind arith
 
 -- An id that is in the range and not held is allocated, unless memory runs out.
 pub allocated_or_memory : (old new : IdState) (id : ℕ) (e : Error) → IsNotHeld old id → AllocatesExactId old id (Err e) new → e ≡ OutOfMemory
-unfolding AllocatesExactId HoldsId
+unfolding AllocatesPeeked Peeks HoldsId
 allocated_or_memory old new id e n h = grind arith
 
 -- ---- One result
@@ -87,12 +87,19 @@ peeks_once state (LowestIn first last) answer other (inr (l, inr a)) (inr (m, in
 peeks_once state (Exact id) answer other a b = grind arith
 
 -- The result of the call is the one that was peeked, unless memory runs out.
+peeked_or_memory : (old new : IdState) (request : IdRequest) (answer : Result ℕ Error) → AllocatesPeeked old request answer new →
+    Peeks old request answer ⊎ (answer ≡ Err OutOfMemory)
+unfolding AllocatesPeeked HoldsId
+peeked_or_memory old new request answer (inl (i, p, inl h)) = inl (rw h.0 p)
+peeked_or_memory old new request answer (inl (i, p, inr h)) = inr h.1
+peeked_or_memory old new request answer (inr (e, p, is, same)) = inl (rw is p)
+
 as_peeked : (old new : IdState) (request : IdRequest) (answer : Result ℕ Error) → AllocatesFor old request answer new →
     Peeks old request answer ⊎ (answer ≡ Err OutOfMemory)
-unfolding Peeks PeeksId AllocatesId ByLowestNotHeld AllocatesExactId AllocatesIdIn HoldsId
+unfolding Peeks PeeksId AllocatesId ByLowestNotHeld
 as_peeked old new Lowest answer a = grind arith
-as_peeked old new (LowestIn first last) answer a = grind arith
-as_peeked old new (Exact id) answer a = grind arith
+as_peeked old new (LowestIn first last) answer a = peeked_or_memory old new (LowestIn first last) answer a
+as_peeked old new (Exact id) answer a = peeked_or_memory old new (Exact id) answer a
 
 pub peeked_is_allocated : PeekedIsAllocated
 peeked_is_allocated old new request peeked answer p a =
