@@ -145,9 +145,9 @@ module _ (old new : DeviceState) (id : ℕ) (q : Range) (d : IsDevice old id q) 
 
   module _ (r : Range) (space : AddressState) (m : MovesRange old.space q request (Ok r) space) where
     -- The table cannot be changed.
-    pub move_undone : new ≡ old → MovesDevice old id request (Err OutOfMemory) new
+    pub move_undone : r.start ≢ q.start → new ≡ old → MovesDevice old id request (Err OutOfMemory) new
     unfolding MovesDevice
-    move_undone same = rw d (Ok r, space, m, inr (refl, same))
+    move_undone n same = rw d (Ok r, space, m, inr (n, refl, same))
 
     -- The device moves.
     pub device_moved : new ≡ with_range id q r old → MovesDevice old id request (Ok r) new
@@ -173,7 +173,7 @@ replaced : (old new : DeviceState) (id : ℕ) (q : Range) (request : Request) (g
 replaced old new id q request (Err e) space answer d m p = inl (e, p.0, p.1)
 replaced old new id q request (Ok r) space answer d m (inl p) =
     inr (r, p.0, record { before = q; device = d; space = space; move = m; left = p.1 })
-replaced old new id q request (Ok r) space answer d m (inr p) = inl (OutOfMemory, p.0, p.1)
+replaced old new id q request (Ok r) space answer d m (inr p) = inl (OutOfMemory, p.1, p.2)
 
 moved_at : (old new : DeviceState) (id : ℕ) (request : Request) (answer : Result Range Error) (at : Option Range) →
     map.get old.devices id ≡ at →

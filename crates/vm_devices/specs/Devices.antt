@@ -1,5 +1,5 @@
 -- Devices: ids and ranges, held in pairs, and the results of the calls of their manager.
-use Rattle.std.specs.Prelude.{◌≡◌, ℕ, ◌⊎◌, ◌↔◌, Some, IsSome, MatchOption, Result, Ok, Err, refl}
+use Rattle.std.specs.Prelude.{◌≡◌, ◌≢◌, ℕ, ◌⊎◌, ◌↔◌, Some, IsSome, MatchOption, Result, Ok, Err, refl}
 use Rattle.std.specs.List.{Contains}
 use Rattle.std.specs.Ordering.{nat_cmp}
 use Rattle.std.specs.Coded.{Coded, code_by, coded×, coded_ℕ}
@@ -121,13 +121,13 @@ Releases old id answer new =
     ((answer ≡ Ok tt) × (new ≡ without_device id r old))
     ⊎ ((answer ≡ Err OutOfMemory) × (new ≡ old)))
 
--- The device with the range q gets the range that it moves to, or the result is OutOfMemory. If it cannot move, the result is the
--- error of the move. An error changes nothing.
+-- The device with the range q gets the range that it moves to, or the result is OutOfMemory, which is possible only for another
+-- start. If it cannot move, the result is the error of the move. An error changes nothing.
 abbrev pub Replaces : DeviceState → ℕ → Range → Result Range Error → Result Range Error → DeviceState → Type 0
 Replaces old id q (Err e) answer new = (answer ≡ Err e) × (new ≡ old)
 Replaces old id q (Ok r) answer new =
     ((answer ≡ Ok r) × (new ≡ with_range id q r old))
-    ⊎ ((answer ≡ Err OutOfMemory) × (new ≡ old))
+    ⊎ ((r.start ≢ q.start) × (answer ≡ Err OutOfMemory) × (new ≡ old))
 
 -- The result of `move_constraint`: NeverAllocated if no device has the id. Otherwise the range of the device moves, or the
 -- result is OutOfMemory. An error changes nothing.

@@ -1,5 +1,5 @@
 //! The table of the devices. It finds a range by its id, and an id by the start of its range.
-ghost use Rattle.std.specs.Prelude.{◌≡◌, ◌↔◌, ℕ, None, Some, length, map as map_list, IfOk, IfSome, OnOk, OnErr};
+ghost use Rattle.std.specs.Prelude.{◌≡◌, ◌≢◌, ◌↔◌, ℕ, None, Some, length, map as map_list, IfOk, IfSome, OnOk, OnErr};
 ghost use Rattle.std.specs.Iterator.{YieldsFirst, YieldsLast, UpTo, at_most, item_count};
 ghost use Rattle.std.specs.Iterator.SizeHint.{IsWithinCount};
 ghost use Rattle.std.specs.FinMap as map;
@@ -103,7 +103,7 @@ impl DeviceTable {
         Some(at.id)
     }
 
-    /// Inserts a device, or changes its range. An error changes nothing.
+    /// Inserts a device, or changes its range. An error changes nothing, and is possible only for another start.
     pub(super) fn insert(
         &mut self,
         alloc: Global,
@@ -113,6 +113,7 @@ impl DeviceTable {
         requires { IsOnlyStart self.old id range.start }
         ensures inserted { OnOk result (self.new ≡ map.insert self.old id range) }
         ensures err { OnErr result (self.new ≡ self.old) }
+        ensures start { OnErr result (¬ StartsAt self.old id range.start) }
     {
         let slot = DeviceSlot { id, range };
         match self.get(id) {
@@ -138,12 +139,14 @@ impl DeviceTable {
         Ok(())
     }
 
-    /// Changes the range of a device, which starts at `before`. An error changes nothing.
+    /// Changes the range of a device, which starts at `before`. An error changes nothing, and is possible only for
+    /// another start.
     fn replace(&mut self, alloc: Global, before: u64, slot: DeviceSlot) -> Result<(), AllocError>
         requires known { StartsAt self.old slot.id before }
         requires only { IsOnlyStart self.old slot.id slot.range.start }
         ensures inserted { OnOk result (self.new ≡ map.insert self.old slot.id slot.range) }
         ensures err { OnErr result (self.new ≡ self.old) }
+        ensures start { OnErr result (before ≢ slot.range.start) }
     {
         let start = slot.range.start();
         if before != start {

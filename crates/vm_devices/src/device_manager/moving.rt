@@ -21,7 +21,7 @@ impl DeviceManager {
     /// this order:
     /// - `NeverAllocated(id)` if no device has the id.
     /// - The errors of `AddressAllocator::move_constraint`, in the order of its documentation.
-    /// - `OutOfMemory` if an allocation for the table of devices fails.
+    /// - `OutOfMemory` if an allocation for the table of devices fails. It is possible only if the start changes.
     #[tactic(auto, using(crate::proofs::DeviceMoves::moves))]
     pub fn move_constraint(
         &mut self,

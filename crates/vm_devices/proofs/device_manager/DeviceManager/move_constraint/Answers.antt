@@ -1,8 +1,10 @@
-use Rattle.std.proofs.Common.{◌≡◌, [], ◌∷◌, sym, ap, ◌∙◌, subst, Err, IfSome, rules}
+use Rattle.std.proofs.Common.{◌≡◌, ℕ, [], ◌∷◌, sym, ap, ◌∙◌, subst, Some, Err, IfSome, rules}
+use Rattle.std.specs.Ordering.{nat_cmp}
 use Rattle.std.specs.FinMap as map
 use Rattle.vm_ranges.specs.Range.{Range, Covers}
 use Rattle.vm_ranges.specs.declared.error.Error.TheVariants.{OutOfMemory}
 use Rattle.vm_addresses.specs.Allocator.{state_of}
+use Rattle.vm_devices.specs.Checks.{StartsAt}
 use Rattle.vm_devices.specs.Devices.{DeviceState, IsDeviceState, devices_of}
 use Rattle.vm_devices.specs.Manager.{DevicesInTree}
 use Rattle.vm_devices.proofs.DeviceMoves.{
@@ -19,6 +21,11 @@ use Rattle.vm_devices.proofs.DeviceMoves.{
 use Rattle.vm_addresses.proofs.Counts.AllocatingParts.{cancelled_parts}
 use Rattle.vm_addresses.proofs.Counts.TakenParts.{taken_both}
 use Rattle.vm_devices.proofs.device_manager.DeviceManager.move_constraint.Goals as goal
+
+-- The device starts where the range to come starts.
+starts_there : (devices : map.FinMap nat_cmp Range) (id : ℕ) (q r to : Range) → map.get devices id ≡ Some q → to ≡ r → r.start ≡ q.start →
+    StartsAt devices id to.start
+starts_there devices id q r to device is e = rw (device, is) (ap Some (sym e))
 
 pub returns-in_err-begun-clause-answer : goal.returns-in_err-begun-clause-answer
 returns-in_err-begun-clause-answer c =
@@ -65,6 +72,7 @@ returns-in-Err-clause-answer c =
     let device = ap (λ (v : DevicesInTree). map.get v.devices c.args.id) c.self.view_is ∙ sym c.in-Some.ensures.value in
     rw (← c.self.view_is, is)
     (move_undone old _ c.args.id c.in-Some.before device c.args.request c.in_ok-begun.begun.range _ c.in_ok-begun.ensures.answer.0
+    (λ e. c.in-Err.ensures.start (starts_there _ c.args.id _ _ _ device c.range-range.ensures e))
     (move_cancelled old _ _ (c.cancel_move.ensures.same _ _ c.in_ok-begun.ensures.answer.1) c.in-Err.ensures.err))
 
 pub invariant_of-self-2 : goal.invariant_of-self-2

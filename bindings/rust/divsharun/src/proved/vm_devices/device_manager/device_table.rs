@@ -66,7 +66,7 @@ impl DeviceTable {
         Some(at.id)
     }
 
-    /// Inserts a device, or changes its range. An error changes nothing.
+    /// Inserts a device, or changes its range. An error changes nothing, and is possible only for another start.
     pub(super) fn insert(
         &mut self,
         alloc: Global,
@@ -92,7 +92,8 @@ impl DeviceTable {
         Ok(())
     }
 
-    /// Changes the range of a device, which starts at `before`. An error changes nothing.
+    /// Changes the range of a device, which starts at `before`. An error changes nothing, and is possible only for
+    /// another start.
     fn replace(&mut self, alloc: Global, before: u64, slot: DeviceSlot) -> Result<(), AllocError> {
         let start = slot.range.start();
         if before != start {

@@ -17,7 +17,7 @@ impl DeviceManager {
     /// this order:
     /// - `NeverAllocated(id)` if no device has the id.
     /// - The errors of `AddressAllocator::move_constraint`, in the order of its documentation.
-    /// - `OutOfMemory` if an allocation for the table of devices fails.
+    /// - `OutOfMemory` if an allocation for the table of devices fails. It is possible only if the start changes.
     pub fn move_constraint(
         &mut self,
         alloc: Global,
