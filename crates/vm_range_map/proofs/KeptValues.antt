@@ -2,7 +2,7 @@
 use Rattle.std.proofs.Common.{◌≡◌, ◌≢◌, ℕ, arith, refl, sym, ap, ◌∙◌, inl, inr, subst, Option, Some, None, Result, Ok, Err}
 use Rattle.std.specs.List.{Contains}
 use Rattle.std.specs.FinMap as map
-use Rattle.vm_ranges.specs.Range.{Range, IsIn, Overlaps}
+use Rattle.vm_ranges.specs.Range.{Range, IsIn, IsInNone, Overlaps}
 use Rattle.vm_ranges.specs.Request.{Request}
 use Rattle.vm_ranges.specs.declared.error.Error.{Error}
 use Rattle.vm_addresses.specs.Address.{AddressState, IsAddressState, holding, releasing}
@@ -21,7 +21,6 @@ use Rattle.vm_range_map.specs.RangeMaps.{
   with_moved,
   AllocatesWith,
   FreesWith,
-  IsInNone,
   IsValueAt,
   SetsValue,
   MovesWith,
@@ -33,7 +32,7 @@ use Rattle.vm_range_map.proofs.Tables.{get_with, get_without, with_here}
 use Rattle.vm_range_map.proofs.MapStates.{new_start, without_state}
 
 -- A held range that contains an address is not in no held range.
-pub missed : (space : AddressState) (r : Range) (x : ℕ) → Contains space.held r → IsIn r x → ¬ IsInNone space x
+pub missed : (space : AddressState) (r : Range) (x : ℕ) → Contains space.held r → IsIn r x → ¬ IsInNone space.held x
 missed space r x c at none = subst (λ (v : Range). ¬ IsIn v x) c.2 (none c.0 r c.1) at
 
 -- Two held ranges that contain an address are the same range.

@@ -1,10 +1,10 @@
 -- Allocated ranges with a value each, and the results of the calls of their map.
 use Rattle.std.specs.Prelude.{◌≡◌, ◌≢◌, ℕ, ◌⊎◌, ◌↔◌, Some, IsSome, Option, MatchOption, Result, Ok, Err}
-use Rattle.std.specs.List.{All, Contains}
+use Rattle.std.specs.List.{Contains}
 use Rattle.std.specs.Ordering.{nat_cmp}
 use Rattle.std.specs.FinMap as map
 use Rattle.vm_ranges.specs.Cases.{IfElse}
-use Rattle.vm_ranges.specs.Range.{Range, IsIn}
+use Rattle.vm_ranges.specs.Range.{Range, IsIn, IsInNone}
 use Rattle.vm_ranges.specs.Request.{Request}
 use Rattle.vm_ranges.specs.declared.error.Error.{Error}
 use Rattle.vm_ranges.specs.declared.error.Error.TheVariants.{ResourceNotAvailable, OutOfMemory}
@@ -82,14 +82,10 @@ FreesWith old r answer new =
     ((value : ℕ) × HasValue old r value × (answer ≡ Ok value) × (new ≡ without_range r old))
     ((answer ≡ Err ResourceNotAvailable) × (new ≡ old))
 
--- The address x is in no held range.
-abbrev pub IsInNone : AddressState → ℕ → Type 0
-IsInNone space x = All (λ r. ¬ IsIn r x) space.held
-
 -- The result of `get`: the held range that contains the address x with its value, or None if no held range contains it.
 unfoldable pub IsValueAt : MapState → ℕ → Option ValuedRange → Type 0
 IsValueAt state x answer =
-    MatchOption answer (IsInNone state.space x)
+    MatchOption answer (IsInNone state.space.held x)
     (λ found. HasValue state found.range found.value × IsIn found.range x)
 
 -- The result of `set`: the held range that contains the address x gets the value, and its value before is returned. If no held
@@ -97,7 +93,7 @@ IsValueAt state x answer =
 unfoldable pub SetsValue : MapState → ℕ → ℕ → Option ℕ → MapState → Type 0
 SetsValue old x value answer new =
     MatchOption answer
-    (IsInNone old.space x × (new ≡ old))
+    (IsInNone old.space.held x × (new ≡ old))
     (λ before. (r : Range) × HasValue old r before × IsIn r x × (new ≡ with_value r value old))
 
 -- The value of the range q goes to the range that it moves to, or the result is OutOfMemory, which is possible only for another

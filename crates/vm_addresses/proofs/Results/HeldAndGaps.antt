@@ -1,7 +1,7 @@
 -- The held ranges and the gaps of a valid state.
 use Rattle.std.proofs.Common.{◌≡◌, ◌↔◌, ℕ, ◌+◌, ◌-◌, ◌<◌, ◌≤◌, ◌⊎◌, max, List, [], ◌∷◌, Option, Some, None, refl, sym, ap, arith, inl, inr, ⊎_elim, subst}
 use Rattle.std.proofs.lemmas.Bool.{cases_lt}
-use Rattle.vm_ranges.specs.Range.{Range, IsIn, address_count}
+use Rattle.vm_ranges.specs.Range.{Range, IsIn, IsInNone, address_count}
 use Rattle.vm_ranges.proofs.RangeCalls.{same_range}
 use Rattle.vm_addresses.specs.Address.{AddressState, IsAddressState, IsClear, IsPlace}
 use Rattle.vm_leaf.specs.Blocks.{Tiles}
@@ -10,7 +10,6 @@ use Rattle.vm_addresses.specs.Windows.{within}
 use Rattle.vm_addresses.specs.Queries.{gaps_of, longest_of, longest_part, longest_in, count_of, IsRangeAt}
 use Rattle.vm_addresses.specs.Laws.QueryLaws.{
   IsInOne,
-  IsInNone,
   EachAddressIsInOne,
   AgreesWithLists,
   HeldAtAgrees,

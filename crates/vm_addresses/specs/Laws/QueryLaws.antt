@@ -1,7 +1,7 @@
 -- Laws of the queries of addresses and gaps.
 use Rattle.std.specs.Prelude.{◌≡◌, ◌↔◌, ℕ, ◌+◌, ◌<◌, ◌≤◌, ◌⊎◌, List, [], Option, Some, None, ◌-◌, ◌*◌, length}
-use Rattle.std.specs.List.{All, Contains}
-use Rattle.vm_ranges.specs.Range.{Range, IsIn, Overlaps, Covers, address_count}
+use Rattle.std.specs.List.{Contains}
+use Rattle.vm_ranges.specs.Range.{Range, IsIn, IsInNone, Overlaps, Covers, address_count}
 use Rattle.vm_addresses.specs.Address.{AddressState, IsAddressState, IsClear, AreClear, IsPlace}
 use Rattle.vm_leaf.specs.Blocks.{Tiles}
 use Rattle.vm_addresses.specs.Tree.Blocks.{held_of, blocks_of}
@@ -15,10 +15,6 @@ pub record IsInOne (ranges : List Range) (x : ℕ) : Type 0 where
   pub listed : Contains ranges range
   pub inside : IsIn range x
   pub only : (r : Range) → Contains ranges r → IsIn r x → r ≡ range
-
--- The address x is in none of the ranges.
-abbrev pub IsInNone : List Range → ℕ → Type 0
-IsInNone ranges x = All (λ r. ¬ IsIn r x) ranges
 
 -- Each address of the space is either in exactly one held range or in exactly one gap.
 abbrev pub EachAddressIsInOne : Type 0
