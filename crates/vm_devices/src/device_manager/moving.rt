@@ -1,8 +1,7 @@
 //! The move of a device to the place of a request.
-ghost use Rattle.std.specs.Prelude.{◌≡◌, ◌%◌, ◌⊎◌, [], ◌∷◌, OnErr, IfErr, IfOk, IfSome};
+ghost use Rattle.std.specs.Prelude.{◌≡◌, ◌%◌, ◌⊎◌, OnErr, IfErr, IfOk, IfSome};
 ghost use Rattle.vm_ranges.specs.Range.{Range, Covers, address_count};
 ghost use Rattle.vm_ranges.specs.declared.error.Error.TheVariants.{OutOfMemory};
-ghost use Rattle.vm_addresses.specs.Counts.Parts.{TakesParts};
 ghost use Rattle.vm_devices.specs.Devices.{IsDeviceState, IsDevice, MovesDevice, with_range};
 ghost use Rattle.vm_devices.specs.Manager.{device_state};
 
@@ -38,7 +37,6 @@ impl DeviceManager {
             × (device_state self.new ≡ with_range id before range (device_state self.old))) }
         ensures unchanged { OnErr result (device_state self.new ≡ device_state self.old) }
         ensures same { IfErr result (λ e. (self.new ≡ self.old) ⊎ (e ≡ OutOfMemory)) }
-        ensures parts { TakesParts 3 self.old.addresses (request ∷ []) self.new.addresses }
         ensures state { IsDeviceState (device_state self.new) }
 
         // Each result under its exact condition.

@@ -1,11 +1,10 @@
 //! Reservations: an id and a range for a new device, both or neither.
-ghost use Rattle.std.specs.Prelude.{◌≡◌, ◌%◌, None, Ok, OnErr, OnOk, IfErr, IfOk, IfSome};
+ghost use Rattle.std.specs.Prelude.{◌≡◌, ◌%◌, ◌⊎◌, None, Ok, OnErr, OnOk, IfErr, IfOk, IfSome};
 ghost use Rattle.std.specs.FinMap as map;
 ghost use Rattle.vm_ranges.specs.Range.{Covers, address_count};
 ghost use Rattle.vm_ranges.specs.Request.{request_for};
 ghost use Rattle.vm_ranges.specs.declared.error.Error.TheVariants.{OutOfMemory};
 ghost use Rattle.vm_addresses.specs.Answer.{IsChosen};
-ghost use Rattle.vm_addresses.specs.Counts.Parts.{AllocatesInParts};
 ghost use Rattle.vm_ids.specs.Ids.{IsLowestNotHeld, IsNotHeld, holding_id};
 ghost use Rattle.vm_ids.specs.IdRequests.{Peeks};
 ghost use Rattle.vm_ids.specs.declared.id_request.IdRequest.TheVariants.{Lowest};
@@ -36,7 +35,7 @@ impl DeviceManager {
     /// - `OutOfMemory` if an allocation for the table of devices fails. The range is freed again, and the
     ///   tree of [`addresses`](Self::addresses) can have another shape. Then its height and its later
     ///   counts can differ.
-    #[tactic(auto, using(crate::proofs::DeviceCalls::reserves, vm_addresses::proofs::Counts::AllocatingParts::left_same))]
+    #[tactic(auto, using(crate::proofs::DeviceCalls::reserves))]
     pub fn reserve(
         &mut self,
         alloc: Global,
@@ -55,7 +54,7 @@ impl DeviceManager {
         ensures held { IfOk result (λ slot.
             device_state self.new ≡ with_device slot.id slot.range (device_state self.old)) }
         ensures unchanged { OnErr result (device_state self.new ≡ device_state self.old) }
-        ensures parts { AllocatesInParts (λ m. m.addresses) self.old (request_for size align policy) result self.new }
+        ensures same { IfErr result (λ e. (self.new ≡ self.old) ⊎ (e ≡ OutOfMemory)) }
         ensures state { IsDeviceState (device_state self.new) }
 
         // Each result under its exact condition.
@@ -87,7 +86,7 @@ impl DeviceManager {
         ensures held { IfOk result (λ slot.
             device_state self.new ≡ with_device slot.id slot.range (device_state self.old)) }
         ensures unchanged { OnErr result (device_state self.new ≡ device_state self.old) }
-        ensures parts { AllocatesInParts (λ m. m.addresses) self.old request result self.new }
+        ensures same { IfErr result (λ e. (self.new ≡ self.old) ⊎ (e ≡ OutOfMemory)) }
 
         // Each result under its exact condition.
         ensures answer { Reserves (device_state self.old) Lowest request result (device_state self.new) }
@@ -105,7 +104,7 @@ impl DeviceManager {
     /// - The errors of `AddressAllocator::allocate_constraint`, in the order of its documentation.
     /// - `OutOfMemory` if an allocation for the table of devices or for skipped ids fails. The range is
     ///   freed again, as by [`reserve`](Self::reserve).
-    #[tactic(auto, using(crate::proofs::DeviceCalls::reserves, vm_addresses::proofs::Counts::AllocatingParts::left_same))]
+    #[tactic(auto, using(crate::proofs::DeviceCalls::reserves))]
     pub fn reserve_with_id(
         &mut self,
         alloc: Global,
@@ -124,7 +123,7 @@ impl DeviceManager {
         ensures held { IfOk result (λ slot.
             device_state self.new ≡ with_device slot.id slot.range (device_state self.old)) }
         ensures unchanged { OnErr result (device_state self.new ≡ device_state self.old) }
-        ensures parts { AllocatesInParts (λ m. m.addresses) self.old request result self.new }
+        ensures same { IfErr result (λ e. (self.new ≡ self.old) ⊎ (e ≡ OutOfMemory)) }
 
         // Each result under its exact condition.
         ensures answer { Reserves (device_state self.old) id request result (device_state self.new) }
@@ -142,7 +141,7 @@ impl DeviceManager {
         ensures inside { IfOk result (λ slot. IfSome request.window (λ window. Covers window slot.range)) }
         ensures chosen { IfOk result (λ slot. IsChosen request (device_state self.old).space slot.range.start) }
         ensures answer { ReservesFor (device_state self.old) request (Ok id) result (device_state self.new) }
-        ensures parts { AllocatesInParts (λ m. m.addresses) self.old request result self.new }
+        ensures same { IfErr result (λ e. (self.new ≡ self.old) ⊎ (e ≡ OutOfMemory)) }
         ensures state { IsDeviceState (device_state self.new) }
     {
         let range = self.mmio_allocator.allocate_constraint(alloc, request)?;

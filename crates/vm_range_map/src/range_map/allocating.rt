@@ -1,9 +1,9 @@
 //! Allocations: a range for a request, with a value.
-ghost use Rattle.std.specs.Prelude.{◌≡◌, ◌%◌, OnErr, IfOk, IfSome};
+ghost use Rattle.std.specs.Prelude.{◌≡◌, ◌%◌, ◌⊎◌, OnErr, IfErr, IfOk, IfSome};
 ghost use Rattle.vm_ranges.specs.Range.{Covers, address_count};
 ghost use Rattle.vm_ranges.specs.Request.{request_for};
+ghost use Rattle.vm_ranges.specs.declared.error.Error.TheVariants.{OutOfMemory};
 ghost use Rattle.vm_addresses.specs.Answer.{IsChosen};
-ghost use Rattle.vm_addresses.specs.Counts.Parts.{AllocatesInParts};
 ghost use Rattle.vm_range_map.specs.RangeMaps.{IsMapState, AllocatesWith, with_range};
 ghost use Rattle.vm_range_map.specs.Trees.{map_state};
 
@@ -23,7 +23,7 @@ impl RangeMap {
     /// - The errors of `AddressAllocator::allocate`, in the order of its documentation.
     /// - `OutOfMemory` if an allocation for the values fails. The range is freed again, and the tree of
     ///   [`addresses`](Self::addresses) can have another shape. Then its height and its later counts can differ.
-    #[tactic(auto, using(crate::proofs::MapCalls::request_refused, vm_addresses::proofs::Counts::AllocatingParts::left_same, vm_ranges::proofs::Requests::constraint_made))]
+    #[tactic(auto, using(crate::proofs::MapCalls::request_refused, vm_ranges::proofs::Requests::constraint_made))]
     pub fn allocate(
         &mut self,
         alloc: Global,
@@ -40,8 +40,7 @@ impl RangeMap {
         // It is held with the value, and nothing else changes.
         ensures held { IfOk result (λ range. map_state self.new ≡ with_range range value (map_state self.old)) }
         ensures unchanged { OnErr result (map_state self.new ≡ map_state self.old) }
-        ensures parts { AllocatesInParts (λ m. m.addresses) self.old (request_for size alignment policy) result
-            self.new }
+        ensures same { IfErr result (λ e. (self.new ≡ self.old) ⊎ (e ≡ OutOfMemory)) }
         ensures state { IsMapState (map_state self.new) }
 
         // Each result under its exact condition.
@@ -77,7 +76,7 @@ impl RangeMap {
         // It is held with the value, and nothing else changes.
         ensures held { IfOk result (λ range. map_state self.new ≡ with_range range value (map_state self.old)) }
         ensures unchanged { OnErr result (map_state self.new ≡ map_state self.old) }
-        ensures parts { AllocatesInParts (λ m. m.addresses) self.old request result self.new }
+        ensures same { IfErr result (λ e. (self.new ≡ self.old) ⊎ (e ≡ OutOfMemory)) }
         ensures state { IsMapState (map_state self.new) }
 
         // Each result under its exact condition.

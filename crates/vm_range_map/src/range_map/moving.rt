@@ -1,8 +1,7 @@
 //! The move of an allocated range to the place of a request. Its value moves too.
-ghost use Rattle.std.specs.Prelude.{◌≡◌, ℕ, ◌%◌, ◌⊎◌, [], ◌∷◌, OnErr, IfErr, IfOk, IfSome};
+ghost use Rattle.std.specs.Prelude.{◌≡◌, ℕ, ◌%◌, ◌⊎◌, OnErr, IfErr, IfOk, IfSome};
 ghost use Rattle.vm_ranges.specs.Range.{Covers, address_count};
 ghost use Rattle.vm_ranges.specs.declared.error.Error.TheVariants.{OutOfMemory};
-ghost use Rattle.vm_addresses.specs.Counts.Parts.{TakesParts};
 ghost use Rattle.vm_range_map.specs.RangeMaps.{IsMapState, HasValue, MovesWith, with_moved};
 ghost use Rattle.vm_range_map.specs.Trees.{map_state};
 
@@ -35,7 +34,6 @@ impl RangeMap {
             × (map_state self.new ≡ with_moved range.now to value (map_state self.old))) }
         ensures unchanged { OnErr result (map_state self.new ≡ map_state self.old) }
         ensures same { IfErr result (λ e. (self.new ≡ self.old) ⊎ (e ≡ OutOfMemory)) }
-        ensures parts { TakesParts 3 self.old.addresses (request ∷ []) self.new.addresses }
         ensures state { IsMapState (map_state self.new) }
 
         // Each result under its exact condition.

@@ -1,7 +1,6 @@
 //! Callers of calls of devices. They guard against clauses from which a caller cannot prove what it needs.
-ghost use Rattle.std.specs.Prelude.{◌≡◌, false, IfOk};
+ghost use Rattle.std.specs.Prelude.{◌≡◌, ◌⊎◌, false, IfErr, IfOk};
 ghost use Rattle.serde_json.specs.View.{view};
-ghost use Rattle.vm_allocator.specs.Counts.Parts.{AllocatesInParts};
 ghost use Rattle.vm_devices.specs.Devices.{MovesDevice};
 ghost use Rattle.vm_devices.specs.Manager.{device_state, made_manager};
 ghost use Rattle.vm_devices.specs.Queries.{DeviceAt};
@@ -14,17 +13,17 @@ use crate::uses::parsed_again;
 use serde_json::Value;
 use std::alloc::Global;
 use std::process::Abort;
-use vm_allocator::{AllocPolicy, Constraint, IdRequest, RangeInclusive, Result, ValueError};
+use vm_allocator::{AllocPolicy, Constraint, Error, IdRequest, RangeInclusive, Result, ValueError};
 use vm_devices::{DeviceManager, DeviceSlot};
 
-/// Plugs a device in with an id. The tree of its addresses comes from at most one allocation and one free.
+/// Plugs a device in with an id. An error leaves the same manager, or memory ran out.
 fn plug(
     alloc: Global,
     devices: &mut DeviceManager,
     id: u32,
     request: Constraint,
 ) -> Result<DeviceSlot>
-    ensures { AllocatesInParts (λ m. m.addresses) devices.old request result devices.new }
+    ensures { IfErr result (λ e. (devices.new ≡ devices.old) ⊎ (e ≡ Error.OutOfMemory)) }
 {
     devices.reserve_with_id(alloc, IdRequest::Exact(id), request)
 }

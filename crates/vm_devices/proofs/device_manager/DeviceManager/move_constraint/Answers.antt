@@ -1,4 +1,4 @@
-use Rattle.std.proofs.Common.{◌≡◌, ℕ, [], ◌∷◌, sym, ap, ◌∙◌, subst, Some, Err, IfSome, rules}
+use Rattle.std.proofs.Common.{◌≡◌, ℕ, sym, ap, ◌∙◌, subst, Some, Err, IfSome, rules}
 use Rattle.std.specs.Ordering.{nat_cmp}
 use Rattle.std.specs.FinMap as map
 use Rattle.vm_ranges.specs.Range.{Range, Covers}
@@ -18,8 +18,6 @@ use Rattle.vm_devices.proofs.DeviceMoves.{
   move_cancelled,
   move_finished,
 }
-use Rattle.vm_addresses.proofs.Counts.AllocatingParts.{cancelled_parts}
-use Rattle.vm_addresses.proofs.Counts.TakenParts.{taken_both}
 use Rattle.vm_devices.proofs.device_manager.DeviceManager.move_constraint.Goals as goal
 
 -- The device starts where the range to come starts.
@@ -57,11 +55,6 @@ returns-in-Err-clause-unchanged c =
     rw (← c.self.view_is)
     (move_cancelled old _ _ (c.cancel_move.ensures.same _ _ c.in_ok-begun.ensures.answer.1) c.in-Err.ensures.err)
 
-pub returns-in-Err-clause-parts : goal.returns-in-Err-clause-parts
-returns-in-Err-clause-parts c =
-    rw (← c.self.view_is)
-    (cancelled_parts _ c.begin_move.new.self _ c.args.request c.in_ok-begun.ensures.parts c.cancel_move.ensures.parts)
-
 pub returns-in-Err-clause-state : goal.returns-in-Err-clause-state
 returns-in-Err-clause-state c = invariant_of-self-in-Err c
 
@@ -93,11 +86,6 @@ pub returns-clause-inside : goal.returns-clause-inside
 returns-clause-inside c =
     subst (λ (v : Range). IfSome c.args.request.window (λ w. Covers w v)) (sym c.range-range.ensures)
     (moved_inside _ _ c.in-Some.before c.in_ok-begun.begun.range c.args.request c.in_ok-begun.ensures.answer.0)
-
-pub returns-clause-parts : goal.returns-clause-parts
-returns-clause-parts c =
-    rw (← c.self.view_is)
-    (taken_both 1 2 _ c.begin_move.new.self _ (c.args.request ∷ []) c.in_ok-begun.ensures.parts (c.finish_move.ensures.parts c.args.request))
 
 pub returns-clause-state : goal.returns-clause-state
 returns-clause-state c = invariant_of-self-2 c

@@ -1,9 +1,7 @@
-use Rattle.std.proofs.Common.{◌≡◌, sym, ap, subst, Ok, Err, rules}
+use Rattle.std.proofs.Common.{◌≡◌, sym, ap, subst, Err, rules}
 use Rattle.vm_ranges.specs.declared.error.Error.TheVariants.{OutOfMemory}
 use Rattle.vm_tree.specs.Shape.{Shape}
 use Rattle.vm_addresses.specs.Allocator.{state_of}
-use Rattle.vm_addresses.proofs.Counts.AllocatingParts.{range_returned, range_kept}
-use Rattle.vm_addresses.proofs.Results.AddressResults.{freeing_undoes}
 use Rattle.vm_range_map.specs.RangeMaps.{MapState, IsMapState, map_of}
 use Rattle.vm_range_map.proofs.MapStates.{new_start, with_state}
 use Rattle.vm_range_map.proofs.MapCalls.{range_refused, range_valued, value_refused, valued_state, returned_state}
@@ -38,16 +36,6 @@ invariant_of-self-in-Err c =
     c.free.ensures.answer c.in-Err.ensures.err))
     c.self.invariant
 
-pub returns-in-Err-clause-parts : goal.returns-in-Err-clause-parts
-returns-in-Err-clause-parts c =
-    let is : c.into.result ≡ OutOfMemory = search rules in
-    let freed = freeing_undoes _ _ _ c.args.request c.in_ok-range.range c.free.result c.self.invariant.space c.in_ok-range.ensures.answer
-    c.free.ensures.answer in
-    rw (← c.self.view_is, is)
-    (range_returned _ _ _ c.args.request c.allocate_constraint.new.self c.in_ok-range.range c.free.result freed.0 c.in_ok-range.ensures.part
-    c.free.ensures.part
-    c.free.ensures.unchanged)
-
 pub returns-in-Err-clause-state : goal.returns-in-Err-clause-state
 returns-in-Err-clause-state c = invariant_of-self-in-Err c
 
@@ -74,9 +62,6 @@ invariant_of-self-in_default c =
     (sym (valued_state old c.args.request c.args.value c.in_ok-range.range _ _ c.in_ok-range.ensures.answer
     (rw c.start.ensures.value at c.in_default.ensures.inserted)))
     (with_state old c.self.invariant c.in_ok-range.range c.args.request _ c.in_ok-range.ensures.answer c.args.value)
-
-pub returns-clause-parts : goal.returns-clause-parts
-returns-clause-parts c = rw (← c.self.view_is) (range_kept _ _ _ c.args.request (Ok c.in_ok-range.range) _ c.in_ok-range.ensures.part)
 
 pub returns-clause-state : goal.returns-clause-state
 returns-clause-state c = invariant_of-self-in_default c

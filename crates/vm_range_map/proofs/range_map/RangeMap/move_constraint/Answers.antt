@@ -1,10 +1,8 @@
-use Rattle.std.proofs.Common.{◌≡◌, [], ◌∷◌, sym, ap, ◌∙◌, subst, Err, IfSome, rules}
+use Rattle.std.proofs.Common.{◌≡◌, sym, ap, ◌∙◌, subst, Err, IfSome, rules}
 use Rattle.vm_ranges.specs.Range.{Range, Covers}
 use Rattle.vm_ranges.specs.declared.error.Error.TheVariants.{OutOfMemory}
 use Rattle.vm_tree.specs.Shape.{Shape}
 use Rattle.vm_addresses.specs.Allocator.{state_of}
-use Rattle.vm_addresses.proofs.Counts.AllocatingParts.{cancelled_parts}
-use Rattle.vm_addresses.proofs.Counts.TakenParts.{taken_both}
 use Rattle.vm_range_map.specs.RangeMaps.{MapState, IsMapState, map_of}
 use Rattle.vm_range_map.proofs.MapStates.{was_held, held_value, moved_start, moved_state}
 use Rattle.vm_range_map.proofs.MapCalls.{moved_fits, moved_inside, move_refused, move_undone, range_moved, cancelled_state, finished_state}
@@ -25,11 +23,6 @@ move_to-requires-clause-new c =
     rw (c.start.ensures.value, start)
     (moved_start old c.self.invariant c.args.range.now c.in_ok-begun.begun.range c.args.request _ c.in_ok-begun.ensures.answer.0)
 
-pub returns-in-Err-clause-parts : goal.returns-in-Err-clause-parts
-returns-in-Err-clause-parts c =
-    rw (← c.self.view_is)
-    (cancelled_parts _ c.begin_move.new.self _ c.args.request c.in_ok-begun.ensures.parts c.cancel_move.ensures.parts)
-
 pub returns-in-Err-clause-answer : goal.returns-in-Err-clause-answer
 returns-in-Err-clause-answer c =
     let old : MapState = map_of (state_of c.self.inside.addresses) c.self.inside.values in
@@ -48,11 +41,6 @@ pub returns-clause-inside : goal.returns-clause-inside
 returns-clause-inside c =
     subst (λ (v : Range). IfSome c.args.request.window (λ w. Covers w v)) (sym c.range-to.ensures)
     (moved_inside _ _ c.args.range.now c.in_ok-begun.begun.range c.args.request c.in_ok-begun.ensures.answer.0)
-
-pub returns-clause-parts : goal.returns-clause-parts
-returns-clause-parts c =
-    rw (← c.self.view_is)
-    (taken_both 1 2 _ c.begin_move.new.self _ (c.args.request ∷ []) c.in_ok-begun.ensures.parts (c.finish_move.ensures.parts c.args.request))
 
 pub invariant_of-self-2 : goal.invariant_of-self-2
 invariant_of-self-2 c =
