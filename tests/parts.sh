@@ -51,6 +51,8 @@ ended() { # command or function ..: runs it, or waits for it if it was begun, an
 in_folder() { (cd "$1" && shift && "$@"); } # folder, command ..
 
 finish_parts() { # name of the check
+    # The status of a part that was begun is known only once it ended.
+    [ "${#failed_parts[@]}" -gt 0 ] || failed_parts=("${!beside[@]}")
     echo "== minutes and seconds that each part took"
     cat "$times"
     times > "$scratch/worked"
