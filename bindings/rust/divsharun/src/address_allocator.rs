@@ -61,15 +61,6 @@ impl AddressAllocator {
             Ok(Self(proved::AddressAllocator::new(Global, base, size)?))
         }
 
-        /// Creates an allocator like [`new`](Self::new), but returns an error if memory runs out.
-        ///
-        /// # Errors
-        ///
-        /// In this order:
-        /// - `Refused(Underflow)` if `size` is 0.
-        /// - `Refused(Overflow)` if the last address would be past `u64::MAX`.
-        /// - `OutOfMemory` if memory for the node runs out.
-        ///
         /// # Example
         ///
         /// ```rust
@@ -113,19 +104,6 @@ impl AddressAllocator {
     /// # Errors
     ///
     /// - `OutOfMemory` if memory for the node runs out.
-    ///
-    /// # Example
-    ///
-    /// ```rust
-    /// use divsharun::{AddressAllocator, RangeInclusive, TryError};
-    ///
-    /// let window = RangeInclusive::from_start_len(0xc000, 0x1000)?;
-    /// match AddressAllocator::try_over(window) {
-    ///     Ok(ports) => assert!(ports.gaps().eq([window])),
-    ///     Err(error) => assert_eq!(error, TryError::OutOfMemory),
-    /// }
-    /// # Ok::<(), TryError>(())
-    /// ```
     pub fn try_over(space: RangeInclusive) -> TryResult<Self> {
         Self::try_new(space.start(), space.len())
     }
@@ -174,17 +152,7 @@ impl AddressAllocator {
             make().map(Self).map_err(list_error)
         }
 
-        /// Creates an allocator like [`with_held`](Self::with_held), but returns an error if
-        /// memory runs out.
-        ///
-        /// # Errors
-        ///
-        /// In this order:
-        /// - `OutOfMemory` without an index if memory for a copy of the list runs out.
-        /// - `Refused` with `Underflow`, `Overflow` or `ResourceNotAvailable`, if `with_held` returns
-        ///   that error, with the same index.
-        /// - `OutOfMemory` without an index if memory for a node runs out. The nodes built so far are
-        ///   freed.
+        /// `OutOfMemory` has no index.
         ///
         /// # Example
         ///
@@ -247,31 +215,7 @@ impl AddressAllocator {
             make().map(Self).map_err(list_error)
         }
 
-        /// Creates an allocator like [`with_free`](Self::with_free), but returns an error if memory runs
-        /// out.
-        ///
-        /// # Errors
-        ///
-        /// In this order:
-        /// - `OutOfMemory` without an index if memory for a copy of the list runs out.
-        /// - `Refused` with `Underflow`, `ResourceNotAvailable`, `InvalidRange` or `Overflow`, if `with_free`
-        ///   returns that error, with the same index.
-        /// - `OutOfMemory` without an index if memory for the holes or for a node runs out.
-        ///
-        /// # Example
-        ///
-        /// ```rust
-        /// use divsharun::{AddressAllocator, Error, ListError, RangeInclusive, TryError};
-        ///
-        /// let [low, high] = [RangeInclusive::new(0, 0x2f7)?, RangeInclusive::new(0x300, 0x3f7)?];
-        /// let ports = AddressAllocator::try_with_free(&[low, high])?;
-        /// assert_eq!(ports.held_at(0x2f8).map(|hole| hole.to_string()), Some("2f8-2ff".to_string()));
-        /// assert_eq!(
-        ///     AddressAllocator::try_with_free(&[]),
-        ///     Err(ListError { index: None, error: TryError::Refused(Error::Underflow) })
-        /// );
-        /// # Ok::<(), TryError>(())
-        /// ```
+        /// `OutOfMemory` has no index.
         pub fn try_with_free -> TryListResult;
 
         /// Allocates `size` free addresses that start at a multiple of `alignment`, and returns their
@@ -319,31 +263,7 @@ impl AddressAllocator {
             Ok(RangeInclusive(self.0.allocate(Global, size, alignment, policy)?))
         }
 
-        /// Allocates a range like [`allocate`](Self::allocate), but returns an error if memory
-        /// runs out.
-        ///
-        /// # Errors
-        ///
-        /// An error changes nothing. In this order:
-        /// - `Refused` with `InvalidSize`, `InvalidAlignment`, `UnalignedAddress`, `Overflow`,
-        ///   `ResourceNotAvailable` or `InvalidStateTransition`, if `allocate` returns that error.
-        /// - `OutOfMemory` if memory for a node runs out. A range that fills its gap does not
-        ///   allocate.
-        ///
-        /// # Example
-        ///
-        /// ```rust
-        /// use divsharun::{AddressAllocator, AllocPolicy, Error, TryError};
-        ///
-        /// let mut ports = AddressAllocator::try_new(0xc000, 0x4000)?;
-        /// let bar = ports.try_allocate(0x20, 0x20, AllocPolicy::FirstMatch)?;
-        /// assert_eq!(bar.to_string(), "c000-c01f");
-        /// assert_eq!(
-        ///     ports.try_allocate(0x20, 0x18, AllocPolicy::FirstMatch),
-        ///     Err(TryError::Refused(Error::InvalidAlignment))
-        /// );
-        /// # Ok::<(), TryError>(())
-        /// ```
+        /// A range that fills its gap needs no memory.
         pub fn try_allocate -> TryResult;
 
         /// Allocates a range like [`allocate`](Self::allocate), for a request that was made before.
@@ -386,31 +306,7 @@ impl AddressAllocator {
             Ok(RangeInclusive(self.0.allocate_constraint(Global, request.0)?))
         }
 
-        /// Allocates a range like [`allocate_constraint`](Self::allocate_constraint), but returns an
-        /// error if memory runs out.
-        ///
-        /// # Errors
-        ///
-        /// An error changes nothing. In this order:
-        /// - `Refused` with `Overflow`, `ResourceNotAvailable` or `InvalidStateTransition`, if
-        ///   `allocate_constraint` returns that error.
-        /// - `OutOfMemory` if memory for a node runs out. A range that fills its gap does not allocate.
-        ///
-        /// # Example
-        ///
-        /// ```rust
-        /// use divsharun::{AddressAllocator, AllocPolicy, Constraint, Error, TryError};
-        ///
-        /// let mut mmio = AddressAllocator::try_new(0xc000_0000, 0x2_0000_0000)?;
-        /// let bar = Constraint::new(0x4000_0000, 0x1000, AllocPolicy::LastMatch)?;
-        /// let bar = bar.within(..=0xffff_ffff)?;
-        /// assert_eq!(mmio.try_allocate_constraint(bar)?.start(), 0xc000_0000);
-        /// assert_eq!(
-        ///     mmio.try_allocate_constraint(bar),
-        ///     Err(TryError::Refused(Error::ResourceNotAvailable))
-        /// );
-        /// # Ok::<(), TryError>(())
-        /// ```
+        /// A range that fills its gap needs no memory.
         pub fn try_allocate_constraint -> TryResult;
     }
 
@@ -516,31 +412,7 @@ impl AddressAllocator {
             Ok(RangeInclusive(self.0.move_constraint(Global, &key.0, request.0)?))
         }
 
-        /// Moves a range like [`move_constraint`](Self::move_constraint), but returns an error if memory
-        /// runs out.
-        ///
-        /// # Errors
-        ///
-        /// An error changes nothing. In this order:
-        /// - `Refused` with `ResourceNotAvailable`, `Overflow` or `InvalidStateTransition`, if
-        ///   `move_constraint` returns that error.
-        /// - `OutOfMemory` if memory for a node runs out. A new range that fills its gap does not allocate.
-        ///
-        /// # Example
-        ///
-        /// ```rust
-        /// use divsharun::{AddressAllocator, AllocPolicy, Constraint, Error, TryError};
-        ///
-        /// let mut ports = AddressAllocator::try_new(0xc000, 0x1000)?;
-        /// let bar = ports.try_allocate(0x100, 0x100, AllocPolicy::FirstMatch)?;
-        /// let smaller = Constraint::new(0x20, 0x20, AllocPolicy::LastMatch)?;
-        /// assert_eq!(ports.try_move_constraint(&bar, smaller)?.start(), 0xcfe0);
-        /// assert_eq!(
-        ///     ports.try_move_constraint(&bar, smaller),
-        ///     Err(TryError::Refused(Error::ResourceNotAvailable))
-        /// );
-        /// # Ok::<(), TryError>(())
-        /// ```
+        /// A range that fills its gap needs no memory.
         pub fn try_move_constraint -> TryResult;
 
         /// Moves an allocated range to another start, and returns the range there.
@@ -582,29 +454,7 @@ impl AddressAllocator {
             Ok(RangeInclusive(self.0.move_range(Global, &key.0, start)?))
         }
 
-        /// Moves a range like [`move_range`](Self::move_range), but returns an error if memory runs out.
-        ///
-        /// # Errors
-        ///
-        /// An error changes nothing. In this order:
-        /// - `Refused` with `ResourceNotAvailable`, `Overflow` or `InvalidStateTransition`, if `move_range`
-        ///   returns that error.
-        /// - `OutOfMemory` if memory for a node runs out. A new range that fills its gap does not allocate.
-        ///
-        /// # Example
-        ///
-        /// ```rust
-        /// use divsharun::{AddressAllocator, AllocPolicy, Error, TryError};
-        ///
-        /// let mut ports = AddressAllocator::try_new(0xc000, 0x1000)?;
-        /// let bar = ports.try_allocate(0x100, 0x100, AllocPolicy::FirstMatch)?;
-        /// assert_eq!(ports.try_move_range(&bar, 0xc800)?.end(), 0xc8ff);
-        /// assert_eq!(
-        ///     ports.try_move_range(&bar, 0xc900),
-        ///     Err(TryError::Refused(Error::ResourceNotAvailable))
-        /// );
-        /// # Ok::<(), TryError>(())
-        /// ```
+        /// A range that fills its gap needs no memory.
         pub fn try_move_range -> TryResult;
 
         /// Allocates a range for each request, in their order, and returns the ranges. Each request can
@@ -650,35 +500,8 @@ impl AddressAllocator {
             allocate().map_err(list_error)
         }
 
-        /// Allocates ranges like [`allocate_all`](Self::allocate_all), but returns an error if
-        /// memory runs out. Each request can have its own window.
-        ///
-        /// # Errors
-        ///
-        /// An error allocates no range. In this order:
-        /// - `OutOfMemory` without an index if memory for a list runs out.
-        /// - For the first request that fails, with its index:
-        ///   - `Refused` with `Overflow`, `ResourceNotAvailable` or `InvalidStateTransition`, if
-        ///     `allocate_all` returns that error.
-        ///   - `OutOfMemory` if memory for a node runs out.
-        ///
-        /// # Example
-        ///
-        /// ```rust
-        /// use divsharun::{AddressAllocator, AllocPolicy, Constraint, Error, ListError, TryError};
-        ///
-        /// let mut space = AddressAllocator::try_new(0, 3)?;
-        /// let request = Constraint::new(2, 1, AllocPolicy::FirstMatch)?;
-        /// assert_eq!(
-        ///     space.try_allocate_all(&[request, request]),
-        ///     Err(ListError {
-        ///         index: Some(1),
-        ///         error: TryError::Refused(Error::ResourceNotAvailable),
-        ///     })
-        /// );
-        /// assert_eq!(space.try_allocate_all(&[request])?[0].end(), 1);
-        /// # Ok::<(), TryError>(())
-        /// ```
+        /// `OutOfMemory` has the index of the request that needs memory for a node, and no index if
+        /// a list needs it.
         pub fn try_allocate_all -> TryListResult;
     }
 
@@ -1184,20 +1007,6 @@ impl AddressAllocator {
     /// # Errors
     ///
     /// - `OutOfMemory` if memory for a node runs out. The nodes copied so far are freed.
-    ///
-    /// # Example
-    ///
-    /// ```rust
-    /// use divsharun::{AddressAllocator, AllocPolicy, TryError};
-    ///
-    /// let mut mmio = AddressAllocator::try_new(0xd000_0000, 0x1000_0000)?;
-    /// mmio.try_allocate(0x1000, 0x1000, AllocPolicy::FirstMatch)?;
-    /// match mmio.try_clone() {
-    ///     Ok(copy) => assert_eq!(copy, mmio),
-    ///     Err(error) => assert_eq!(error, TryError::OutOfMemory),
-    /// }
-    /// # Ok::<(), TryError>(())
-    /// ```
     pub fn try_clone(&self) -> TryResult<Self> {
         Ok(AddressAllocator(self.0.try_clone(Global)?))
     }

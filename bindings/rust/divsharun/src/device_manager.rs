@@ -113,27 +113,6 @@ impl DeviceManager {
             Ok(Self(proved::DeviceManager::new(Global, id_lo, id_hi, base, size)?))
         }
 
-        /// Creates a manager like [`new`](Self::new), but returns an error if memory runs out.
-        ///
-        /// # Errors
-        ///
-        /// In this order:
-        /// - `Refused` with `InvalidRange`, `Underflow` or `Overflow`, if `new` returns that error.
-        /// - `OutOfMemory` if memory for a node runs out.
-        ///
-        /// # Example
-        ///
-        /// ```rust
-        /// use divsharun::{DeviceManager, Error, TryError};
-        ///
-        /// let devices = DeviceManager::try_new(0, 31, 0xa00_0000, 0x4000)?;
-        /// assert_eq!(devices.device_at(0xa00_0000), None);
-        /// assert_eq!(
-        ///     DeviceManager::try_new(31, 0, 0xa00_0000, 0x4000),
-        ///     Err(TryError::Refused(Error::InvalidRange(31, 0)))
-        /// );
-        /// # Ok::<(), TryError>(())
-        /// ```
         pub fn try_new -> TryResult;
 
         /// Allocates the lowest free id and a range of `size` addresses for a new device. `policy` and
@@ -169,28 +148,6 @@ impl DeviceManager {
             Ok(self.0.reserve(Global, size, align, policy)?.into())
         }
 
-        /// Reserves like [`reserve`](Self::reserve), but returns an error if memory runs out.
-        ///
-        /// # Errors
-        ///
-        /// An error leaves ids, ranges and devices unchanged. In this order:
-        /// - `Refused` with the error of `reserve`.
-        /// - `OutOfMemory` if memory for a node or for the table of devices runs out.
-        ///
-        /// # Example
-        ///
-        /// ```rust
-        /// use divsharun::{AllocPolicy, DeviceManager, Error, TryError};
-        ///
-        /// let mut devices = DeviceManager::try_new(0, 31, 0xa00_0000, 0x4000)?;
-        /// let console = devices.try_reserve(0x200, 0x200, AllocPolicy::LastMatch)?;
-        /// assert_eq!(console.range.start(), 0xa00_3e00);
-        /// assert_eq!(
-        ///     devices.try_reserve(0x4000, 0x200, AllocPolicy::LastMatch),
-        ///     Err(TryError::Refused(Error::ResourceNotAvailable))
-        /// );
-        /// # Ok::<(), TryError>(())
-        /// ```
         pub fn try_reserve -> TryResult;
 
         /// Reserves like [`reserve`](Self::reserve), for a request that was made before. If the request
@@ -219,30 +176,6 @@ impl DeviceManager {
             Ok(self.0.reserve_constraint(Global, request.0)?.into())
         }
 
-        /// Reserves like [`reserve_constraint`](Self::reserve_constraint), but returns an error if memory
-        /// runs out.
-        ///
-        /// # Errors
-        ///
-        /// An error leaves ids, ranges and devices unchanged. In this order:
-        /// - `Refused` with the error of `reserve_constraint`.
-        /// - `OutOfMemory` if memory for a node or for the table of devices runs out.
-        ///
-        /// # Example
-        ///
-        /// ```rust
-        /// use divsharun::{AllocPolicy, Constraint, DeviceManager, Error, TryError};
-        ///
-        /// let mut devices = DeviceManager::try_new(5, 23, 0xc000_0000, 0x2_0000_0000)?;
-        /// let bar = Constraint::new(0x1000, 0x1000, AllocPolicy::FirstMatch)?;
-        /// let below_the_space = bar.within(..0xc000_0000)?;
-        /// assert_eq!(
-        ///     devices.try_reserve_constraint(below_the_space),
-        ///     Err(TryError::Refused(Error::ResourceNotAvailable))
-        /// );
-        /// assert_eq!(devices.try_reserve_constraint(bar)?.id, 5);
-        /// # Ok::<(), TryError>(())
-        /// ```
         pub fn try_reserve_constraint -> TryResult;
 
         /// Reserves like [`reserve_constraint`](Self::reserve_constraint), with the id of another request
@@ -277,30 +210,6 @@ impl DeviceManager {
             Ok(self.0.reserve_with_id(Global, id, request.0)?.into())
         }
 
-        /// Reserves like [`reserve_with_id`](Self::reserve_with_id), but returns an error if memory runs
-        /// out.
-        ///
-        /// # Errors
-        ///
-        /// An error leaves ids, ranges and devices unchanged. In this order:
-        /// - `Refused` with the error of `reserve_with_id`.
-        /// - `OutOfMemory` if memory for a node, for the table of devices or for the set of freed ids runs
-        ///   out.
-        ///
-        /// # Example
-        ///
-        /// ```rust
-        /// use divsharun::{AllocPolicy, Constraint, DeviceManager, Error, IdRequest, TryError};
-        ///
-        /// let mut devices = DeviceManager::try_new(0, 31, 0xd000_0000, 0x1000_0000)?;
-        /// let bar = Constraint::new(0x1000, 0x1000, AllocPolicy::LastMatch)?;
-        /// assert_eq!(devices.try_reserve_with_id(IdRequest::Exact(31), bar)?.id, 31);
-        /// assert_eq!(
-        ///     devices.try_reserve_with_id(IdRequest::Exact(32), bar),
-        ///     Err(TryError::Refused(Error::OutOfRange(32)))
-        /// );
-        /// # Ok::<(), TryError>(())
-        /// ```
         pub fn try_reserve_with_id -> TryResult;
     }
 
@@ -355,30 +264,6 @@ impl DeviceManager {
             Ok(RangeInclusive(self.0.move_constraint(Global, id, request.0)?))
         }
 
-        /// Moves a device like [`move_constraint`](Self::move_constraint), but returns an error if memory
-        /// runs out.
-        ///
-        /// # Errors
-        ///
-        /// An error leaves ids, ranges and devices unchanged. In this order:
-        /// - `Refused` with the error of `move_constraint`.
-        /// - `OutOfMemory` if memory for a node or for the table of devices runs out.
-        ///
-        /// # Example
-        ///
-        /// ```rust
-        /// use divsharun::{AllocPolicy, Constraint, DeviceManager, Error, TryError};
-        ///
-        /// let mut devices = DeviceManager::try_new(1, 31, 0xfe00_0000, 0x8000)?;
-        /// let net = devices.try_reserve(0x4000, 0x4000, AllocPolicy::FirstMatch)?;
-        /// let longer = Constraint::new(0x8000, 0x4000, AllocPolicy::FirstMatch)?;
-        /// assert_eq!(devices.try_move_constraint(net.id, longer)?.len(), 0x8000);
-        /// assert_eq!(
-        ///     devices.try_move_constraint(2, longer),
-        ///     Err(TryError::Refused(Error::NeverAllocated(2)))
-        /// );
-        /// # Ok::<(), TryError>(())
-        /// ```
         pub fn try_move_constraint -> TryResult;
 
         /// Releases a device: frees its id and its range.
@@ -404,29 +289,6 @@ impl DeviceManager {
             Ok(self.0.release(id)?)
         }
 
-        /// Releases a device like [`release`](Self::release), but returns an error if memory
-        /// runs out.
-        ///
-        /// # Errors
-        ///
-        /// An error changes nothing. In this order:
-        /// - `Refused(NeverAllocated(id))` if no device has this id.
-        /// - `OutOfMemory` if memory for the set of freed ids runs out.
-        ///
-        /// # Example
-        ///
-        /// ```rust
-        /// use divsharun::{AllocPolicy, DeviceManager, Error, TryError};
-        ///
-        /// let mut devices = DeviceManager::try_new(5, 23, 0xd000_0000, 0x2ec0_0000)?;
-        /// let id = devices.try_reserve(0x1000, 0x1000, AllocPolicy::FirstMatch)?.id;
-        /// devices.try_release(id)?;
-        /// assert_eq!(
-        ///     devices.try_release(id),
-        ///     Err(TryError::Refused(Error::NeverAllocated(5)))
-        /// );
-        /// # Ok::<(), TryError>(())
-        /// ```
         pub fn try_release -> TryResult;
     }
 
@@ -512,16 +374,6 @@ impl DeviceManager {
     /// # Errors
     ///
     /// - `OutOfMemory` if memory for a node runs out.
-    ///
-    /// # Example
-    ///
-    /// ```rust
-    /// use divsharun::{DeviceManager, TryError};
-    ///
-    /// let devices = DeviceManager::try_new(0, 31, 0xa00_0000, 0x4000)?;
-    /// assert_eq!(devices.try_addresses()?.free_len(), 0x4000);
-    /// # Ok::<(), TryError>(())
-    /// ```
     pub fn try_addresses(&self) -> TryResult<AddressAllocator> {
         Ok(AddressAllocator(self.0.addresses().try_clone(Global)?))
     }
@@ -548,16 +400,6 @@ impl DeviceManager {
     /// # Errors
     ///
     /// - `OutOfMemory` if memory for the set of freed ids runs out.
-    ///
-    /// # Example
-    ///
-    /// ```rust
-    /// use divsharun::{DeviceManager, TryError};
-    ///
-    /// let devices = DeviceManager::try_new(0, 31, 0xa00_0000, 0x4000)?;
-    /// assert_eq!(devices.try_ids()?.free_count(), 32);
-    /// # Ok::<(), TryError>(())
-    /// ```
     pub fn try_ids(&self) -> TryResult<IdAllocator> {
         Ok(IdAllocator(self.0.ids().try_clone(Global)?))
     }
@@ -606,23 +448,6 @@ impl DeviceManager {
     /// # Errors
     ///
     /// - `OutOfMemory` if memory runs out.
-    ///
-    /// # Example
-    ///
-    /// ```rust
-    /// use divsharun::{AllocPolicy, DeviceManager, Error, TryError};
-    ///
-    /// // Two devices or none.
-    /// let mut devices = DeviceManager::try_new(5, 23, 0xd000_0000, 0x1800)?;
-    /// let mut both = devices.try_clone()?;
-    /// both.try_reserve(0x1000, 0x1000, AllocPolicy::FirstMatch)?;
-    /// match both.try_reserve(0x1000, 0x1000, AllocPolicy::FirstMatch) {
-    ///     Ok(_) => devices = both,
-    ///     Err(error) => assert_eq!(error, TryError::Refused(Error::ResourceNotAvailable)),
-    /// }
-    /// assert_eq!(devices.device_count(), 0);
-    /// # Ok::<(), TryError>(())
-    /// ```
     pub fn try_clone(&self) -> TryResult<Self> {
         Ok(DeviceManager(self.0.try_clone(Global)?))
     }

@@ -107,30 +107,6 @@ impl IdAllocator {
             Ok(Self(proved::IdAllocator::with_held(Global, range_base, range_end, held)?))
         }
 
-        /// Creates an allocator like [`with_held`](Self::with_held), but returns an error if memory
-        /// runs out.
-        ///
-        /// # Errors
-        ///
-        /// In this order:
-        /// - `Refused` with `InvalidRange`, `OutOfRange` or `ResourceNotAvailable`, if `with_held` returns
-        ///   that error.
-        /// - `OutOfMemory` if memory runs out.
-        ///
-        /// # Example
-        ///
-        /// ```rust
-        /// use divsharun::{Error, IdAllocator, TryError};
-        ///
-        /// // The timer and the clock have fixed lines.
-        /// let lines = IdAllocator::try_with_held(0, 15, &[0, 8])?;
-        /// assert_eq!(lines.peek_id(), Ok(1));
-        /// assert_eq!(
-        ///     IdAllocator::try_with_held(0, 15, &[8, 0]),
-        ///     Err(TryError::Refused(Error::ResourceNotAvailable))
-        /// );
-        /// # Ok::<(), TryError>(())
-        /// ```
         pub fn try_with_held -> TryResult;
     }
 
@@ -189,29 +165,6 @@ impl IdAllocator {
             Ok(self.0.allocate_exact(id)?)
         }
 
-        /// Allocates an id like [`allocate_exact`](Self::allocate_exact), but returns an error if
-        /// memory runs out.
-        ///
-        /// # Errors
-        ///
-        /// An error changes nothing. In this order:
-        /// - `Refused` with `OutOfRange` or `ResourceNotAvailable`, if `allocate_exact` returns that error.
-        /// - `OutOfMemory` if memory runs out.
-        ///
-        /// # Example
-        ///
-        /// ```rust
-        /// use divsharun::{Error, IdAllocator, TryError};
-        ///
-        /// // Shared interrupts of a GIC.
-        /// let mut interrupts = IdAllocator::new(32, 127)?;
-        /// assert_eq!(interrupts.try_allocate_exact(33), Ok(33));
-        /// assert_eq!(
-        ///     interrupts.try_allocate_exact(128),
-        ///     Err(TryError::Refused(Error::OutOfRange(128)))
-        /// );
-        /// # Ok::<(), TryError>(())
-        /// ```
         pub fn try_allocate_exact -> TryResult;
 
         /// Allocates the lowest free id in a window, which is a range of `u32`, and returns it.
@@ -243,29 +196,6 @@ impl IdAllocator {
             Ok(self.0.allocate_in(first, last)?)
         }
 
-        /// Allocates an id like [`allocate_in`](Self::allocate_in), but returns an error if memory
-        /// runs out.
-        ///
-        /// # Errors
-        ///
-        /// An error changes nothing. In this order:
-        /// - `Refused` with `InvalidRange` or `ResourceNotAvailable`, if `allocate_in` returns that error.
-        /// - `OutOfMemory` if memory runs out.
-        ///
-        /// # Example
-        ///
-        /// ```rust
-        /// use divsharun::{Error, IdAllocator, TryError};
-        ///
-        /// // The lines of PCI.
-        /// let mut lines = IdAllocator::new(5, 23)?;
-        /// assert_eq!(lines.try_allocate_in(20..)?, 20);
-        /// assert_eq!(
-        ///     lines.try_allocate_in(20..20),
-        ///     Err(TryError::Refused(Error::InvalidRange(20, 19)))
-        /// );
-        /// # Ok::<(), TryError>(())
-        /// ```
         pub fn try_allocate_in -> TryResult;
 
         /// Allocates the `count` lowest free ids, or none, and returns them in ascending order. They are the
@@ -292,30 +222,6 @@ impl IdAllocator {
             Ok(self.0.allocate_ids(Global, count)?.into())
         }
 
-        /// Allocates ids like [`allocate_ids`](Self::allocate_ids), but returns an error if memory
-        /// runs out.
-        ///
-        /// # Errors
-        ///
-        /// An error changes nothing. In this order:
-        /// - `Refused` with `Overflow` or `ResourceNotAvailable`, if `allocate_ids` returns that error.
-        /// - `OutOfMemory` if memory for the list runs out.
-        ///
-        /// # Example
-        ///
-        /// ```rust
-        /// use divsharun::{Error, IdAllocator, TryError};
-        ///
-        /// // The vectors of a device with three queues.
-        /// let mut vectors = IdAllocator::new(32, 238)?;
-        /// assert_eq!(vectors.try_allocate_ids(3)?, [32, 33, 34]);
-        /// assert_eq!(
-        ///     vectors.try_allocate_ids(205),
-        ///     Err(TryError::Refused(Error::ResourceNotAvailable))
-        /// );
-        /// assert_eq!(vectors.free_count(), 204);
-        /// # Ok::<(), TryError>(())
-        /// ```
         pub fn try_allocate_ids -> TryResult;
     }
 
@@ -389,27 +295,6 @@ impl IdAllocator {
             Ok(self.0.free_id(id)?)
         }
 
-        /// Frees an id like [`free_id`](Self::free_id), but returns an error if memory runs out.
-        ///
-        /// # Errors
-        ///
-        /// An error changes nothing. In this order:
-        /// - `Refused` with `OutOfRange`, `NeverAllocated` or `AlreadyReleased`, if `free_id` returns
-        ///   that error.
-        /// - `OutOfMemory` if memory runs out.
-        ///
-        /// # Example
-        ///
-        /// ```rust
-        /// use divsharun::{Error, IdAllocator, TryError};
-        ///
-        /// // The vsock addresses of guests.
-        /// let mut guests = IdAllocator::new(3, 0xffff_fffe)?;
-        /// let id = guests.allocate_id()?;
-        /// assert_eq!(guests.try_free_id(id)?, 3);
-        /// assert_eq!(guests.try_free_id(id), Err(TryError::Refused(Error::AlreadyReleased(3))));
-        /// # Ok::<(), TryError>(())
-        /// ```
         pub fn try_free_id -> TryResult;
     }
 
@@ -491,17 +376,6 @@ impl IdAllocator {
     /// # Errors
     ///
     /// - `OutOfMemory` if memory runs out.
-    ///
-    /// # Example
-    ///
-    /// ```rust
-    /// use divsharun::{IdAllocator, TryError};
-    ///
-    /// let lines = IdAllocator::with_held(5, 23, &[5, 8])?;
-    /// let copy: Result<IdAllocator, TryError> = lines.try_clone();
-    /// assert_eq!(copy, Ok(lines));
-    /// # Ok::<(), TryError>(())
-    /// ```
     pub fn try_clone(&self) -> TryResult<Self> {
         Ok(IdAllocator(self.0.try_clone(Global)?))
     }

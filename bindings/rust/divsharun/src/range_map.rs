@@ -70,15 +70,6 @@ impl<T> RangeMap<T> {
             Ok(RangeMap { ranges, values })
         }
 
-        /// Creates a map like [`new`](Self::new), but returns an error if memory runs out.
-        ///
-        /// # Errors
-        ///
-        /// In this order:
-        /// - `Refused(Underflow)` if `size` is 0.
-        /// - `Refused(Overflow)` if the last address would be past `u64::MAX`.
-        /// - `OutOfMemory` if memory for the node runs out.
-        ///
         /// # Example
         ///
         /// ```rust
@@ -130,28 +121,6 @@ impl<T> RangeMap<T> {
             Ok(RangeInclusive(self.keep(range, value)?))
         }
 
-        /// Allocates a range like [`allocate`](Self::allocate), but returns an error if memory runs out.
-        ///
-        /// # Errors
-        ///
-        /// An error drops `value`, and leaves ranges and other values unchanged. In this order:
-        /// - `Refused` with the error of `allocate`.
-        /// - `OutOfMemory` if memory for a node, for the index of the value or for the value runs out.
-        ///
-        /// # Example
-        ///
-        /// ```rust
-        /// use divsharun::{AllocPolicy, Error, RangeMap, TryError};
-        ///
-        /// let mut ports = RangeMap::try_new(0xc000, 0x4000)?;
-        /// let bar = ports.try_allocate(0x20, 0x20, AllocPolicy::FirstMatch, 7)?;
-        /// assert_eq!(bar.to_string(), "c000-c01f");
-        /// assert_eq!(
-        ///     ports.try_allocate(0x20, 0x18, AllocPolicy::FirstMatch, 8),
-        ///     Err(TryError::Refused(Error::InvalidAlignment))
-        /// );
-        /// # Ok::<(), TryError>(())
-        /// ```
         pub fn try_allocate -> TryResult;
 
         /// Allocates a range like [`allocate`](Self::allocate), for a request that was made before. If the
@@ -180,29 +149,6 @@ impl<T> RangeMap<T> {
             Ok(RangeInclusive(self.keep(range, value)?))
         }
 
-        /// Allocates a range like [`allocate_constraint`](Self::allocate_constraint), but returns an error if
-        /// memory runs out.
-        ///
-        /// # Errors
-        ///
-        /// An error drops `value`, and leaves ranges and other values unchanged. In this order:
-        /// - `Refused` with the error of `allocate_constraint`.
-        /// - `OutOfMemory` if memory for a node, for the index of the value or for the value runs out.
-        ///
-        /// # Example
-        ///
-        /// ```rust
-        /// use divsharun::{AllocPolicy, Constraint, Error, RangeMap, TryError};
-        ///
-        /// let mut bus = RangeMap::try_new(0xd000_0000, 0x1000)?;
-        /// let page = Constraint::new(0x1000, 0x1000, AllocPolicy::FirstMatch)?;
-        /// bus.try_allocate_constraint(page, 'a')?;
-        /// assert_eq!(
-        ///     bus.try_allocate_constraint(page, 'b'),
-        ///     Err(TryError::Refused(Error::ResourceNotAvailable))
-        /// );
-        /// # Ok::<(), TryError>(())
-        /// ```
         pub fn try_allocate_constraint -> TryResult;
     }
 
@@ -252,26 +198,6 @@ impl<T> RangeMap<T> {
             Ok(RangeInclusive(to))
         }
 
-        /// Moves a range like [`move_constraint`](Self::move_constraint), but returns an error if memory runs
-        /// out.
-        ///
-        /// # Errors
-        ///
-        /// An error leaves ranges and values unchanged. In this order:
-        /// - `Refused` with the error of `move_constraint`.
-        /// - `OutOfMemory` if memory for a node or for the index of the value runs out.
-        ///
-        /// # Example
-        ///
-        /// ```rust
-        /// use divsharun::{AllocPolicy, Constraint, RangeMap, TryError};
-        ///
-        /// let mut bus = RangeMap::try_new(0xfe00_0000, 0x8000)?;
-        /// let net = bus.try_allocate(0x4000, 0x4000, AllocPolicy::FirstMatch, "net")?;
-        /// let longer = Constraint::new(0x8000, 0x4000, AllocPolicy::FirstMatch)?;
-        /// assert_eq!(bus.try_move_constraint(&net, longer)?.len(), 0x8000);
-        /// # Ok::<(), TryError>(())
-        /// ```
         pub fn try_move_constraint -> TryResult;
     }
 
@@ -412,17 +338,6 @@ impl<T> RangeMap<T> {
     /// # Errors
     ///
     /// - `OutOfMemory` if memory for a node, for an index or for the list of the values runs out.
-    ///
-    /// # Example
-    ///
-    /// ```rust
-    /// use divsharun::{AllocPolicy, RangeMap, TryError};
-    ///
-    /// let mut bus = RangeMap::try_new(0xd000_0000, 0x1000_0000)?;
-    /// bus.try_allocate(0x1000, 0x1000, AllocPolicy::FirstMatch, "disk")?;
-    /// assert_eq!(bus.try_clone()?, bus);
-    /// # Ok::<(), TryError>(())
-    /// ```
     pub fn try_clone(&self) -> TryResult<Self>
     where
         T: Clone,

@@ -82,6 +82,7 @@ macro_rules! fused {
 
 /// Defines calls in pairs with the same body. If memory runs out, the first call of a pair ends the process, and
 /// the second one returns `OutOfMemory`: its type of result decides how an error of the proved code is converted.
+/// Its documentation refers to the first call, and ends with what only the second one has.
 macro_rules! twins {
     ($(
         $(#[$attribute:meta])*
@@ -91,6 +92,14 @@ macro_rules! twins {
     )+) => {$(
         $(#[$attribute])*
         pub fn $name($($parameter)*) -> $result<$value> $body
+        #[doc = concat!("Does the same as [`", stringify!($name), "`](Self::", stringify!($name),
+            "), but returns an error if memory runs out.")]
+        ///
+        /// # Errors
+        ///
+        #[doc = concat!("- `Refused` with the error that `", stringify!($name), "` returns.")]
+        /// - `OutOfMemory` if memory runs out.
+        ///
         $(#[$try_attribute])*
         pub fn $try_name($($parameter)*) -> $try_result<$value> $body
     )+};
