@@ -1,16 +1,18 @@
 #!/usr/bin/env python3
-"""Applies the patches of tests/mutants, and runs the check that must notice each.
+"""Makes the mutants of tests/mutants, and runs the check that must notice each.
 
-    mutant_tests.py PROJECT SCRATCH [PATCH ..]
+    mutant_tests.py PROJECT SCRATCH [MUTANT ..]
 
-No clause excludes these mutants. The first line of a patch names the change, and the second one the check with parts
-of its output, as in `CHECK: TEXT & TEXT`. The check is error_rule, count_rule, or a test of divsharun: memory, calls
-or replay. The patches have no lines of context (git diff -U0). count_rule compiles the sources, so its mutants are
-checked together. The exit status is 1 if a mutant is not noticed, or if a test fails without one."""
+No clause excludes these mutants. The first line of one names the change, and the second one the check with parts of
+its output, as in `CHECK: TEXT & TEXT`. The check is error_rule, count_rule, or a test of divsharun: memory, calls or
+replay. The rest are files, each with the text to replace (-), which it has once in any layout, and the new text (+).
+count_rule compiles the sources, so its mutants are checked together. The exit status is 1 if a mutant is not noticed,
+or if a test fails without one."""
 import collections
 import glob
 import os
 import pathlib
+import re
 import shutil
 import subprocess
 import sys
@@ -28,16 +30,26 @@ def run(*command, folder=DIVSHARUN):
     return done.returncode, done.stdout + done.stderr
 
 
-def output_of(check, patches):
-    """Applies patches to a copy of the sources. Returns the status and the output of a check."""
+def make(mutant):
+    """Edits the copy of the sources. Returns what is wrong with the mutant, or nothing."""
+    for path, old, new in re.findall(r"^(\w\S*)\n((?:-.*\n)+)((?:\+.*\n)+)", pathlib.Path(mutant).read_text("utf-8"), re.M):
+        source = pathlib.Path(COPY, path)
+        pattern = r"\s+".join(map(re.escape, re.sub(r"^-", "", old, flags=re.M).split()))
+        text, count = re.subn(pattern, lambda _: re.sub(r"^\+", "", new, flags=re.M), source.read_text("utf-8"))
+        if count != 1:
+            return f"{path} has the text to replace {count} times: make the change to the sources of today"
+        source.write_text(text, "utf-8")
+    return ""
+
+
+def output_of(check, mutants):
+    """Makes mutants in a copy of the sources. Returns the status and the output of a check."""
     shutil.rmtree(COPY, ignore_errors=True)
     others = shutil.ignore_patterns("must-fail", "out", "proofs", "specs")
     shutil.copytree(os.path.join(PROJECT, "crates"), os.path.join(COPY, "crates"), ignore=others)
     shutil.copy(os.path.join(PROJECT, "crates.txt"), COPY)
-    for patch in patches:
-        status, output = run("git", "apply", "--unidiff-zero", patch, folder=COPY)
-        if status:
-            return status, f"make its change to the sources of today, and write it with git diff -U0: {output}"
+    if wrong := "".join(map(make, mutants)):
+        return 1, wrong
     if check in RULES:
         return run(os.path.join(TOP, "tests", check), COPY)
     status, output = run(os.path.join(TOP, "bindings/erase/erase.py"), COPY, "src/proved")
@@ -46,21 +58,21 @@ def output_of(check, patches):
 
 
 def main():
-    bindings, mutants = os.path.join(PROJECT, "bindings/rust"), os.path.join(PROJECT, "tests/mutants")
+    bindings, folder = os.path.join(PROJECT, "bindings/rust"), os.path.join(PROJECT, "tests/mutants")
     shutil.copytree(bindings, os.path.dirname(DIVSHARUN), ignore=shutil.ignore_patterns("target"))
-    patches = [*map(os.path.abspath, sys.argv[3:])] or sorted(glob.glob(os.path.join(mutants, "*.patch")))
+    mutants = [*map(os.path.abspath, sys.argv[3:])] or sorted(glob.glob(os.path.join(folder, "*.txt")))
     checks, wrong = collections.defaultdict(dict), []
-    for patch in patches:
-        check, texts = pathlib.Path(patch).read_text("utf-8").split("\n")[1].split(": ", 1)
-        checks[check][patch] = texts.split(" & ")
-    for check, mutants in checks.items():
+    for mutant in mutants:
+        check, texts = pathlib.Path(mutant).read_text("utf-8").split("\n")[1].split(": ", 1)
+        checks[check][mutant] = texts.split(" & ")
+    for check, texts in checks.items():
         if check not in RULES and output_of(check, [])[0]:
             wrong.append(f"{check}.rs fails without a mutant")
-        for group in [[*mutants]] if check == "count_rule" else [[patch] for patch in mutants]:
+        for group in [[*texts]] if check == "count_rule" else [[mutant] for mutant in texts]:
             status, output = output_of(check, group)
-            wrong += [f"{patch}: {check} does not print '{text}': {output[-1500:]}"
-                      for patch in group for text in mutants[patch] if not status or text not in output]
-    print(*wrong, f"{len(patches)} mutants, {len(wrong)} faults", sep="\n")
+            wrong += [f"{mutant}: {check} does not print '{text}': {output[-1500:]}"
+                      for mutant in group for text in texts[mutant] if not status or text not in output]
+    print(*wrong, f"{len(mutants)} mutants, {len(wrong)} faults", sep="\n")
     sys.exit(len(wrong) > 0)
 
 
