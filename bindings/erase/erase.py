@@ -236,7 +236,7 @@ class File(Tokens):
         self.generics, self.imported, self.from_prelude = set(), {}, set()
         self.uses, self.public_fields = [], []  # (position, kind of name, name), (position, name of the type)
         self.imports = []  # (the first index, the index after the last, the indices of the names)
-        self.first_kept, self.kept = None, 0
+        self.first_kept = None
         self.is_of_values = "\nuse serde_json::" in self.text and not crate.project.with_tests
         crate.of_values |= {path[:-len(".rt")]} if self.is_of_values else set()
         end = self.items(self.head(), None)
@@ -305,7 +305,6 @@ class File(Tokens):
                 self.cut(item.start, behind)
             elif self.first_kept is None:
                 self.first_kept = self.start_of(item.start)
-            self.kept += kept
             index = behind
         return index
 
@@ -532,13 +531,8 @@ class File(Tokens):
         known = TRAITS.union(*(crate.traits for crate in self.crate.and_below()))
         is_allowed = not trait or trait in known
         self.refuse_if(not is_allowed, f"an impl of {trait!r}", item.keyword)
-        first, kept = self.first_kept, self.kept
-        self.first_kept = first or self.start_of(item.start)
-        behind = self.items(index + 1, trait or "impl") + 1
-        if not trait and self.kept == kept:
-            self.first_kept = first
-            return behind, False
-        return behind, True
+        self.first_kept = self.first_kept or self.start_of(item.start)
+        return self.items(index + 1, trait or "impl") + 1, True
 
     # ---- Names in code ----
 
@@ -652,13 +646,10 @@ class File(Tokens):
         self.cuts += self.modules_of_crates()
         text, last = "", 0
         for start, end, instead in sorted(self.outer_cuts() + [(at, at, inserted)]):
-            start, end = self.with_lines(start, end, instead, last)
             text += self.text[last:start]
-            if not instead and text.endswith(("\n\n", "{\n")) and self.text.startswith("\n", end):
-                end += 1  # one of two empty lines remains
+            if not instead and start < end and text.rstrip(" ").endswith("\n") and self.text.startswith("\n", end):
+                end += 1  # nothing else is on these lines
             text, last = text + instead, max(end, last)
-            if text.endswith("\n\n") and self.text[last:].lstrip(" ").startswith("}"):
-                text = text[:-1]
         text = UNREACHED.sub(r"\g<0>#[allow(dead_code)] ", text + self.text[last:])
         text = SAVED.sub('#[cfg_attr(feature = "serde", derive(serde::Serialize, serde::Deserialize))]\n', text)
         return ORIGIN.format(self.path) + "\n" + text.strip("\n") + "\n"
@@ -687,12 +678,6 @@ class File(Tokens):
             elif cut[1] > outer[-1][1]:
                 self.fail("two pieces to cut that overlap", cut[0])
         return outer
-
-    def with_lines(self, start, end, instead, last):
-        """Extends a cut to whole lines if nothing else is on them."""
-        line = self.text.rfind("\n", 0, start) + 1
-        whole = not instead and start < end and line >= last and not self.text[line:start].strip()
-        return (line, end + 1) if whole and self.text.startswith("\n", end) else (start, end)
 
 
 FORMS = {
