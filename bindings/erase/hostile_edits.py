@@ -8,7 +8,6 @@ this error. The prover, rustc or the second eraser rejects what is no item, stat
 kind. The exit status is 1 if an edit is accepted, or if its text is not found."""
 import os
 import pathlib
-import re
 import shutil
 import subprocess
 import sys
@@ -129,17 +128,6 @@ def faults_of_second(project, folder):
     return wrong
 
 
-def unused(project):
-    """Returns the names in tables of the eraser that no source has, so that no table has more than it must."""
-    text = "".join(path.read_text("utf-8") for path in pathlib.Path(project, "crates").rglob("*.rt"))
-    words = set(re.findall(r"\w+", text))
-    tables = "METHODS ASSOCIATED MACROS DERIVES TRAITS ATTRIBUTES KEYWORDS NAMES NUMBERS PRELUDE"
-    names = {name for table in tables.split() for name in getattr(erase, table)}
-    for _, imported in [*erase.FOLDERS.values(), *erase.FOLDERS_OF_TESTS.values()]:
-        names |= imported
-    return sorted(name for name in names if not words >= set(re.findall(r"\w+", name)))
-
-
 def main():
     if len(sys.argv) != 2:
         sys.exit(__doc__)
@@ -151,7 +139,6 @@ def main():
         found += [(code, error_of(project, code, True), error) for code, error in OF_TESTS]
         wrong = faults_of_program(project, os.path.join(project, "out"))
     wrong += [f"{code}: {error}, instead of: {expected}" for code, error, expected in found if error != expected]
-    wrong += [f"remove {name} from the table of the eraser: no source uses it" for name in unused(sys.argv[1])]
     print(*wrong, f"{len(found)} hostile edits, {len(wrong)} faults", sep="\n")
     sys.exit(len(wrong) > 0)
 
