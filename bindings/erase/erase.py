@@ -93,11 +93,7 @@ RUNTIME = "{\n    let rt = HostRuntime;"
 DISPLAY = """
 
 impl core::fmt::Display for {name} {{
-    fn fmt(&self, f: &mut core::fmt::Formatter<'_>) -> core::fmt::Result {{
-        match self {{
-{arms}        }}
-    }}
-}}
+fn fmt(&self, f: &mut core::fmt::Formatter<'_>) -> core::fmt::Result {{ match self {{ {arms} }} }} }}
 
 impl core::error::Error for {name} {{}}"""
 
@@ -481,7 +477,7 @@ class File(Tokens):
             fields = self.tokens[variant + 1:self.matching(variant + 1)] if self.at(variant + 1, "(") else []
             names = [f"field_{number}" for number in range(sum(token.kind == "word" for token in fields))]
             pattern = self.tokens[variant].text + (f"({', '.join(names)})" if names else "")
-            arms += f"            {name}::{pattern} => write!(f, {text}),\n"
+            arms += f"{name}::{pattern} => write!(f, {text}),\n"
             self.cut(place, variant)
         end = self.tokens[behind - 1].end
         self.cuts.append((end, end, DISPLAY.format(name=name, arms=arms)))
