@@ -3,11 +3,11 @@
 
     mutant_tests.py PROJECT SCRATCH [MUTANT ..]
 
-No clause excludes these mutants. The first line of one names the change, and the second one the check with parts of
-its output, as in `CHECK: TEXT & TEXT`. The check is error_rule, count_rule, or a test of divsharun: memory, calls or
-replay. The rest are files, each with the text to replace (-), which it has once in any layout, and the new text (+).
-count_rule compiles the sources, so its mutants are checked together. The exit status is 1 if a mutant is not noticed,
-or if a test fails without one."""
+No clause excludes these mutants. The first line of one names the check and parts of its output, as in
+`CHECK: TEXT & TEXT`. The check is error_rule, count_rule, or a test of divsharun: memory, calls or replay. The rest
+are files, each with the text to replace (-), which it has once in any layout, and the new text (+). count_rule
+compiles the sources, so its mutants are checked together. The exit status is 1 if a mutant is not noticed, or if a
+test fails without one."""
 import collections
 import glob
 import os
@@ -63,7 +63,7 @@ def main():
     mutants = [*map(os.path.abspath, sys.argv[3:])] or sorted(glob.glob(os.path.join(folder, "*.txt")))
     checks, wrong = collections.defaultdict(dict), []
     for mutant in mutants:
-        check, texts = pathlib.Path(mutant).read_text("utf-8").split("\n")[1].split(": ", 1)
+        check, texts = pathlib.Path(mutant).read_text("utf-8").split("\n")[0].split(": ", 1)
         checks[check][mutant] = texts.split(" & ")
     for check, texts in checks.items():
         if check not in RULES and output_of(check, [])[0]:
