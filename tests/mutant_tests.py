@@ -34,10 +34,12 @@ def make(mutant):
     """Edits the copy of the sources. Returns what is wrong with the mutant, or nothing."""
     for path, old, new in re.findall(r"^(\w\S*)\n((?:-.*\n)+)((?:\+.*\n)+)", pathlib.Path(mutant).read_text("utf-8"), re.M):
         source = pathlib.Path(COPY, path)
+        if not source.exists():
+            return f"there is no {path}: name the file of today"
         pattern = r"\s+".join(map(re.escape, re.sub(r"^-", "", old, flags=re.M).split()))
         text, count = re.subn(pattern, lambda _: re.sub(r"^\+", "", new, flags=re.M), source.read_text("utf-8"))
         if count != 1:
-            return f"{path} has the text to replace {count} times: make the change to the sources of today"
+            return f"{path} has {old!r} {count} times: name the text of today"
         source.write_text(text, "utf-8")
     return ""
 

@@ -81,8 +81,6 @@ def write_crates(project, program):
 def error_of(project, code, is_of_tests=False):
     """Returns the error of the eraser for an item in a crate that a program needs, or that only tests need."""
     source, text = pathlib.Path(project, RANGE), pathlib.Path(project, RANGE).read_bytes().decode()
-    if text.count(IMPL) != 1:
-        return f"{RANGE} has {text.count(IMPL)} times {IMPL!r}, so change IMPL"
     source.write_bytes(text.replace(IMPL, f"{code}\n{IMPL}").encode())
     write_crates(project, "" if is_of_tests else PROGRAM)
     try:
@@ -123,7 +121,8 @@ def faults_of_second(project, folder):
         text = plain.read_text("utf-8")
         plain.write_text(text.replace(old, new, 1), "utf-8")
         second = subprocess.run([sys.executable, SECOND, project, folder.parent], capture_output=True, check=False)
-        wrong += [f"second_eraser.py ends with {second.returncode} for {new}"] * (second.returncode != int(old != new))
+        if second.returncode != int(old != new):
+            wrong.append(f"second_eraser.py ends with {second.returncode} for {new!r} in {name}, or that has no {old!r}")
         plain.write_text(text, "utf-8")
     return wrong
 
@@ -134,6 +133,9 @@ def main():
     with tempfile.TemporaryDirectory() as project:
         crate = os.path.join("crates", "vm_ranges")
         shutil.copytree(os.path.join(sys.argv[1], crate), os.path.join(project, crate))
+        source = pathlib.Path(project, RANGE)
+        if not source.exists() or source.read_text("utf-8").count(IMPL) != 1:
+            sys.exit(f"hostile edits: {RANGE} must have {IMPL!r} once: name another place")
         edits = [*ITEMS, *((f"fn f(&self) -> u64 {{\n    {code}\n    1\n}}", error) for code, error in STATEMENTS)]
         found = [(code, error_of(project, code), error) for code, error in edits]
         found += [(code, error_of(project, code, True), error) for code, error in OF_TESTS]
