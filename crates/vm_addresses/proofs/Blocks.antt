@@ -1,11 +1,7 @@
 pub mod BlockCounts
 pub mod BlockOrder
-pub mod BlockStates
 pub mod GapLists
-pub mod Gaps
 pub mod HeldChanges
 pub mod HeldLists
 pub mod HeldSets
-pub mod OneList
 pub mod PickedRanges
-pub mod PlainWords

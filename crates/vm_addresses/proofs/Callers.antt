@@ -36,17 +36,17 @@ use Rattle.std.proofs.Common.{
 use Rattle.std.specs.List.{Contains}
 use Rattle.serde_json.specs.Data.{Data}
 use Rattle.vm_ranges.specs.Range.{Range, IsIn, Overlaps, Covers, address_count, span}
-use Rattle.vm_addresses.specs.Address.{AddressState, AreClear, IsPlace, IsAddressState, holding, releasing, without_range}
+use Rattle.vm_ranges.specs.Address.{AddressState, AreClear, IsPlace, IsAddressState, holding, releasing, without_range}
 use Rattle.vm_ranges.specs.Alignment.{IsAlignment}
 use Rattle.vm_ranges.specs.Request.{Request, request_for, IsRequest, IsStartAligned}
-use Rattle.vm_addresses.specs.Windows.{within}
-use Rattle.vm_addresses.specs.Answer.{SPLIT_LIMIT_MIN_HELD, IsChosen, AllocatesAt, Allocates, Frees}
+use Rattle.vm_ranges.specs.Windows.{within}
+use Rattle.vm_ranges.specs.Answer.{SPLIT_LIMIT_MIN_HELD, IsChosen, AllocatesAt, Allocates, Frees}
 use Rattle.vm_addresses.specs.Values.AllocatorValues.{EncodesAddresses}
 use Rattle.vm_ranges.specs.declared.error.Error.{Error}
 use Rattle.vm_ranges.specs.declared.error.Error.TheVariants.{Overflow, OutOfMemory, ResourceNotAvailable}
 use Rattle.vm_ranges.specs.declared.constraint.AllocPolicy.{AllocPolicy}
 use Rattle.vm_ranges.specs.declared.constraint.AllocPolicy.TheVariants.{ExactMatch}
-use Rattle.vm_addresses.proofs.Blocks.PlainWords.{IsHeldAddress, IsHeld as IsHeldRange, contains_held, held_contains, all_miss, none_holds, held_address}
+use Rattle.vm_ranges.proofs.PlainWords.{IsHeldAddress, IsHeld as IsHeldRange, contains_held, held_contains, all_miss, none_holds, held_address}
 use Rattle.vm_addresses.proofs.Blocks.HeldSets.{held_lies, one_held, one_start as one_held_start}
 use Rattle.vm_addresses.proofs.Blocks.HeldChanges.{held_now, held_without, not_held_without}
 use Rattle.vm_addresses.proofs.Results.AddressResults.{releases_held}

@@ -1,4 +1,3 @@
 pub mod Items
 pub mod Orders
 pub mod StateOrders
-pub mod Tilings

@@ -3,9 +3,9 @@ use Rattle.std.proofs.Common.{◌≡◌, ℕ, ◌+◌, ◌-◌, ◌%◌, ◌<◌
 use Rattle.std.proofs.lemmas.Bool.{cases_eq}
 use Rattle.std.specs.List.{Contains}
 use Rattle.vm_ranges.specs.Range.{Range, MAX, IsRange, IsIn}
-use Rattle.vm_addresses.specs.Address.{AddressState, IsClear, AreClear, IsPlace, SplitsGap}
+use Rattle.vm_ranges.specs.Address.{AddressState, IsClear, AreClear, IsPlace, SplitsGap}
 use Rattle.vm_ranges.proofs.Decisions.{Decided, decided_both, decided_if, decided_below, decided_up_to, decided_row, decided_in, decided_same}
-use Rattle.vm_addresses.proofs.Blocks.PlainWords.{IsHeldAddress, IsHeld, contains_held, held_contains, all_miss, none_holds}
+use Rattle.vm_ranges.proofs.PlainWords.{IsHeldAddress, IsHeld, contains_held, held_contains, all_miss, none_holds}
 
 decided_held_address : (hs : List Range) (x : ℕ) → Decided (IsHeldAddress hs x)
 decided_held_address [] x = inr (λ h. h)

@@ -1,9 +1,3 @@
 pub mod NestedTrees
-pub mod ReadNodes
-pub mod ReadSpaces
-pub mod ReadValues
-pub mod Writing
-pub mod NodeStates
 pub mod ReadAllocators
 pub mod WrittenAllocators
-pub mod RepairedTrees

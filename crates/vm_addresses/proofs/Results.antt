@@ -1,5 +1,4 @@
 pub mod AddressResults
-pub mod Capacity
 pub mod Filling
 pub mod HeldAndGaps
 pub mod Meeting
@@ -11,10 +10,6 @@ pub mod EveryAddressCall
 pub mod InMemory
 pub mod Moves
 pub mod Several
-pub mod SeveralParts
-pub mod HeldOnes
-pub mod HeldFaults
-pub mod LongestGap
 pub mod WindowResults
 pub mod Conflicts
 pub mod Holes

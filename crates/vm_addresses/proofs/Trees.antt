@@ -4,3 +4,4 @@ pub mod Freeing
 pub mod Spaces
 pub mod HeldTrees
 pub mod Joining
+pub mod WrittenTrees

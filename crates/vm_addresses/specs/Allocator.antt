@@ -5,9 +5,9 @@ use Rattle.vm_ranges.specs.declared.error.Error.{Error}
 use Rattle.vm_ranges.specs.declared.error.Error.TheVariants.{OutOfMemory}
 use Rattle.vm_leaf.specs.declared.block.Block.{Block}
 use Rattle.vm_tree.specs.Shape.{Shape, blocks}
-use Rattle.vm_addresses.specs.Address.{AddressState}
-use Rattle.vm_tree.specs.Building.{TOO_MANY_BLOCKS}
-use Rattle.vm_addresses.specs.Tree.Blocks.{blocks_state, IsTiling}
+use Rattle.vm_ranges.specs.Address.{AddressState}
+use Rattle.vm_leaf.specs.TreeHeights.{TOO_MANY_BLOCKS}
+use Rattle.vm_leaf.specs.SpaceBlocks.{blocks_state, IsTiling}
 
 -- The end of the last block.
 abbrev pub last_end : ℕ → List Block → ℕ

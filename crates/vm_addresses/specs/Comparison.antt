@@ -8,8 +8,8 @@ use Rattle.std.specs.Cmp.Lexicographic.{slice_cmp}
 use Rattle.std.proofs.lemmas.Cmp.{lists_total, then_total, on_total}
 use Rattle.vm_ranges.specs.RangeOrder.{range_cmp, range_cmp-total}
 use Rattle.vm_leaf.specs.declared.block.Block.{Block}
-use Rattle.vm_addresses.specs.Tree.Blocks.{blocks_of}
-use Rattle.vm_addresses.specs.Address.{AddressState}
+use Rattle.vm_leaf.specs.SpaceBlocks.{blocks_of}
+use Rattle.vm_ranges.specs.Address.{AddressState}
 use Rattle.vm_leaf.specs.BlockOrder.{block_cmp, block_cmp-total}
 
 -- The order of lists of blocks: by the first blocks that differ. A proper prefix is less.

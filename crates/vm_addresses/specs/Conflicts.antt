@@ -4,9 +4,9 @@ use Rattle.std.specs.List.{Contains}
 use Rattle.vm_ranges.specs.Cases.{Unless}
 use Rattle.vm_ranges.specs.Range.{Range, Overlaps, Covers, span}
 use Rattle.vm_ranges.specs.Request.{Request, ByPolicy}
-use Rattle.vm_addresses.specs.Address.{AddressState, IsPlace, releasing}
+use Rattle.vm_ranges.specs.Address.{AddressState, IsPlace, releasing}
 use Rattle.vm_addresses.specs.Queries.{meeting}
-use Rattle.vm_addresses.specs.Windows.{within}
+use Rattle.vm_ranges.specs.Windows.{within}
 use Rattle.vm_addresses.specs.declared.address_allocator.conflicts.Conflict.{Conflict}
 use Rattle.vm_addresses.specs.declared.address_allocator.conflicts.Conflict.TheVariants.{OutsideWindow, OutsideSpace, Allocated}
 

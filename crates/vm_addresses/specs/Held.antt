@@ -26,10 +26,10 @@ use Rattle.std.specs.Prelude.{
 }
 use Rattle.vm_ranges.specs.Cases.{IfElse}
 use Rattle.vm_ranges.specs.Range.{Range, MAX, span, address_count}
-use Rattle.vm_tree.specs.Building.{AreInOrder, blocks_between, TOO_MANY_BLOCKS}
-use Rattle.vm_addresses.specs.Address.{AddressState}
+use Rattle.vm_leaf.specs.TreeHeights.{TOO_MANY_BLOCKS}
+use Rattle.vm_leaf.specs.SpaceBlocks.{blocks_between, blocks_of}
+use Rattle.vm_ranges.specs.Address.{AreInOrder, AddressState}
 use Rattle.vm_addresses.specs.Queries.{count_of}
-use Rattle.vm_addresses.specs.Tree.Blocks.{blocks_of}
 use Rattle.vm_ranges.specs.declared.error.Error.{Error}
 use Rattle.vm_ranges.specs.declared.error.ListError.{ListError}
 use Rattle.vm_ranges.specs.declared.error.Error.TheVariants.{Overflow, ResourceNotAvailable, Underflow, OutOfMemory}
@@ -89,15 +89,16 @@ HasFaultIndex base size held index =
 abbrev pub MakesWithHeld : ℕ → ℕ → List Range → Result AddressState Error → Type 0
 MakesWithHeld base size held answer = BySpace base size (λ e. answer ≡ Err e) (λ space. MakesHeld space held answer)
 
--- The numbers of blocks and of free addresses of the space with these ranges held, or the error and the index of the first
--- range that cannot be held.
-abbrev pub CountsBlocks : Range → List Range → Result (ℕ × ℕ) ListError → Type 0
-CountsBlocks space held answer =
+-- The ranges can be held in the space, or the error and the index of the first one that cannot.
+abbrev pub ChecksHeld : Range → List Range → Result (Unit {0}) ListError → Type 0
+ChecksHeld space held answer =
     MatchResult answer
-    (λ n. (first_fault space.start space.end held ≡ None)
+    (λ _. (first_fault space.start space.end held ≡ None)
     × AreInOrder space.start held space.end
-    × (n.0 ≡ length (blocks_between space.start held space.end))
-    × (n.1 + count_of held ≡ address_count space)
     × (fault_index 0 space.start space.end held ≡ None))
     (λ failure. (first_fault space.start space.end held ≡ Some failure.error)
     × (failure.index ≡ fault_index 0 space.start space.end held))
+
+-- The numbers of blocks and of free addresses of the space with these ranges held.
+abbrev pub CountsBlocks : Range → List Range → ℕ × ℕ → Type 0
+CountsBlocks space held n = (n.0 ≡ length (blocks_between space.start held space.end)) × (n.1 + count_of held ≡ address_count space)

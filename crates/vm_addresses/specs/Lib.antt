@@ -1,13 +1,9 @@
 pub mod Allocator
-pub mod Address
-pub mod Answer
-pub mod Windows
 pub mod Comparison
 pub mod Tree
 pub mod Counts
 pub mod Held
 pub mod Queries
-pub mod Laws
 pub mod Values
 pub mod Checks
 pub mod Several
@@ -15,3 +11,4 @@ pub mod Moves
 pub mod Conflicts
 pub mod Holes
 pub mod Histories
+pub mod Facts

@@ -4,8 +4,8 @@ use Rattle.std.specs.List.{Contains}
 use Rattle.vm_ranges.specs.Cases.{Unless}
 use Rattle.vm_ranges.specs.Range.{Range, MAX, IsIn, address_count}
 use Rattle.vm_ranges.specs.Request.{Request, request_for}
-use Rattle.vm_addresses.specs.Address.{AddressState, IsAddressState, IsClear, SplitsGap, holding, releasing}
-use Rattle.vm_addresses.specs.Answer.{SPLIT_LIMIT_MIN_HELD, Allocates}
+use Rattle.vm_ranges.specs.Address.{AddressState, IsAddressState, IsClear, SplitsGap, holding, releasing}
+use Rattle.vm_ranges.specs.Answer.{SPLIT_LIMIT_MIN_HELD, Allocates}
 use Rattle.vm_addresses.specs.declared.address_allocator.moving.BegunMove.{BegunMove}
 use Rattle.vm_ranges.specs.declared.error.Error.{Error}
 use Rattle.vm_ranges.specs.declared.error.Error.TheVariants.{ResourceNotAvailable}

@@ -2,11 +2,11 @@
 use Rattle.std.specs.Prelude.{ℕ, ◌+◌, ◌-◌, max, List, [], ◌∷◌, ◌++◌, Option, Some, None}
 use Rattle.std.specs.List.{All, Contains, filter}
 use Rattle.vm_ranges.specs.Range.{Range, IsIn, address_count}
-use Rattle.vm_addresses.specs.Address.{AddressState}
-use Rattle.vm_leaf.specs.Windows.{common}
+use Rattle.vm_ranges.specs.Address.{AddressState}
+use Rattle.vm_ranges.specs.Windows.{common}
 use Rattle.vm_leaf.specs.declared.block.Block.{Block}
 use Rattle.vm_tree.specs.Walks.{meets}
-use Rattle.vm_addresses.specs.Tree.Blocks.{blocks_of, held_of}
+use Rattle.vm_leaf.specs.SpaceBlocks.{blocks_of, held_of}
 use Rattle.vm_ranges.specs.declared.state.NodeState.{NodeState}
 use Rattle.vm_ranges.specs.declared.state.NodeState.TheVariants.{Free, Allocated}
 

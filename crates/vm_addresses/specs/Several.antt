@@ -2,8 +2,8 @@
 use Rattle.std.specs.Prelude.{◌≡◌, ◌⊎◌, ℕ, List, [], ◌∷◌, ◌++◌, length, MatchOption, Result, Ok, Err, MatchResult}
 use Rattle.vm_ranges.specs.Range.{Range, address_count}
 use Rattle.vm_ranges.specs.Request.{Request, request_for}
-use Rattle.vm_addresses.specs.Address.{AddressState, IsAddressState}
-use Rattle.vm_addresses.specs.Answer.{Allocates}
+use Rattle.vm_ranges.specs.Address.{AddressState, IsAddressState}
+use Rattle.vm_ranges.specs.Answer.{Allocates}
 use Rattle.vm_tree.specs.Shape.{Shape}
 use Rattle.vm_addresses.specs.Allocator.{state_of}
 use Rattle.vm_ranges.specs.declared.error.Error.{Error}

@@ -1,4 +1,3 @@
-pub mod Blocks
 pub mod BlockList
 pub mod BlockEdits
 pub mod Allocation

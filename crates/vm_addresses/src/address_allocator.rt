@@ -12,10 +12,10 @@
 //! drops the count.
 ghost use Rattle.std.specs.Prelude.{ℕ, ◌≡◌, ◌%◌, [], ◌∷◌, Err, OnErr, OnOk, IfOk, IfSome, IsOk};
 ghost use Rattle.std.specs.List.{Contains};
-ghost use Rattle.vm_addresses.specs.Address.{IsAddressState, holding, releasing};
+ghost use Rattle.vm_ranges.specs.Address.{IsAddressState, holding, releasing};
 ghost use Rattle.vm_ranges.specs.Range.{Covers, address_count};
 ghost use Rattle.vm_ranges.specs.Request.{request_for};
-ghost use Rattle.vm_addresses.specs.Answer.{Allocates, FillsGap, Frees, IsChosen, Makes};
+ghost use Rattle.vm_ranges.specs.Answer.{Allocates, FillsGap, Frees, IsChosen, Makes};
 ghost use Rattle.vm_addresses.specs.Allocator.{IsSpaceTree, MakesTree, state_of, made_state};
 ghost use Rattle.vm_addresses.specs.Held.{MakesSpace};
 ghost use Rattle.vm_ranges.specs.Cloning.{Clones};
@@ -43,7 +43,6 @@ pub(crate) mod ranges;
 mod several;
 mod with_free;
 
-pub(crate) use allocation::SPLIT_LIMIT;
 pub use conflicts::Conflict;
 
 /// Allocates ranges of addresses from one space.

@@ -31,15 +31,13 @@
 #![tactic(auto)]
 
 mod address_allocator;
-mod laws;
 mod saved;
 
 pub use address_allocator::blocks::AllBlocks;
 pub use address_allocator::ranges::{Ranges, RangesIn};
 pub use address_allocator::{AddressAllocator, Conflict};
-pub use saved::nodes::{ReadNodes, Side};
-pub use saved::written::{WrittenBlocks, WrittenNode, WrittenTree};
 pub use vm_ranges::{
     AllocPolicy, Condition, Constraint, DEFAULT_CONSTRAINT_ALIGN, Error, ListError, RangeInclusive,
     Result, SavedError, ValueError,
 };
+pub use vm_saved_trees::{ReadNodes, Side, WrittenBlocks, WrittenNode, WrittenTree};

@@ -2,8 +2,4 @@
 //!
 //! A value can be untrusted input, so the whole value is checked before the first allocation.
 mod allocator;
-pub(crate) mod node;
-pub(crate) mod nodes;
-pub(crate) mod span;
-mod tree;
-pub(crate) mod written;
+mod trees;

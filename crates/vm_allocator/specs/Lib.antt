@@ -1,4 +1,3 @@
-pub mod Laws
 -- Re-exports the definitions of the crates below that public clauses cite. Callers name them by this crate.
 pub use Rattle.vm_ranges.specs.Cases
 pub use Rattle.vm_ranges.specs.Range
@@ -10,10 +9,11 @@ pub use Rattle.vm_ranges.specs.Cloning
 pub use Rattle.vm_ranges.specs.Saving
 pub use Rattle.vm_ranges.specs.RangeValues
 pub use Rattle.vm_ranges.specs.Texts
+pub use Rattle.vm_leaf.specs.SpaceBlocks
 pub use Rattle.vm_addresses.specs.Allocator
-pub use Rattle.vm_addresses.specs.Address
-pub use Rattle.vm_addresses.specs.Answer
-pub use Rattle.vm_addresses.specs.Windows
+pub use Rattle.vm_ranges.specs.Address
+pub use Rattle.vm_ranges.specs.Answer
+pub use Rattle.vm_ranges.specs.Windows
 pub use Rattle.vm_addresses.specs.Held
 pub use Rattle.vm_addresses.specs.Queries
 pub use Rattle.vm_addresses.specs.Comparison
@@ -25,6 +25,10 @@ pub use Rattle.vm_addresses.specs.Conflicts
 pub use Rattle.vm_addresses.specs.Holes
 pub use Rattle.vm_addresses.specs.Histories
 pub use Rattle.vm_addresses.specs.Values
+pub use Rattle.vm_saved_trees.specs.NodesRead
+pub use Rattle.vm_saved_trees.specs.SavedTrees
+pub use Rattle.vm_saved_trees.specs.TreeValues
+pub use Rattle.vm_saved_trees.specs.KeyValues
 pub use Rattle.vm_ids.specs.Ids
 pub use Rattle.vm_ids.specs.IdRequests
 pub use Rattle.vm_ids.specs.IdOrder

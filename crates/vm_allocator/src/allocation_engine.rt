@@ -5,9 +5,9 @@ ghost use Rattle.std.specs.Cmp.Rules.{comparing};
 ghost use Rattle.std.specs.Ordering.{on, eq_by_cmp, as_partial_cmp};
 ghost use Rattle.std.specs.declared.cmp.Ordering.TheVariants.{Equal};
 ghost use Rattle.std.proofs.lemmas.Cmp.{on_total};
-ghost use Rattle.vm_addresses.specs.Address.{IsAddressState};
+ghost use Rattle.vm_ranges.specs.Address.{IsAddressState};
 ghost use Rattle.vm_addresses.specs.Allocator.{MakesTree, state_of};
-ghost use Rattle.vm_addresses.specs.Answer.{Allocates, Frees};
+ghost use Rattle.vm_ranges.specs.Answer.{Allocates, Frees};
 ghost use Rattle.vm_addresses.specs.Comparison.{layout_cmp, layout_cmp-total, AreEqual};
 
 use std::alloc::Global;

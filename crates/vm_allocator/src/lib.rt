@@ -6,7 +6,6 @@
 #![tactic(auto)]
 
 pub mod allocation_engine;
-mod laws;
 
 pub use vm_addresses::{
     AddressAllocator, AllBlocks, AllocPolicy, Condition, Conflict, Constraint,

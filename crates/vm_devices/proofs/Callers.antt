@@ -1,7 +1,7 @@
 -- Facts for callers about reserved devices.
 use Rattle.std.proofs.Common.{◌≡◌, ⊎_elim, Result, Ok, Err, IfOk}
 use Rattle.vm_ranges.specs.Range.{Overlaps}
-use Rattle.vm_addresses.specs.Address.{holding}
+use Rattle.vm_ranges.specs.Address.{holding}
 use Rattle.vm_ranges.specs.Request.{Request}
 use Rattle.vm_ranges.specs.declared.error.Error.{Error}
 use Rattle.vm_addresses.proofs.Callers.{allocated_apart}

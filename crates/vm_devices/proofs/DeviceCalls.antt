@@ -29,8 +29,8 @@ use Rattle.std.specs.Ordering.{nat_cmp}
 use Rattle.std.specs.FinMap as map
 use Rattle.std.specs.FinSet as set
 use Rattle.vm_ranges.specs.Range.{Range, MAX, Covers, address_count}
-use Rattle.vm_addresses.specs.Address.{AddressState, holding, releasing}
-use Rattle.vm_addresses.specs.Answer.{Makes, IsChosen, Allocates, Frees}
+use Rattle.vm_ranges.specs.Address.{AddressState, holding, releasing}
+use Rattle.vm_ranges.specs.Answer.{Makes, IsChosen, Allocates, Frees}
 use Rattle.std.specs.Cmp.{nat_cmp_total}
 use Rattle.vm_ids.specs.Ids.{MAX_ID, IdState, IsHeld, IsNotHeld, MakesIds, new_ids, holding_id, releasing_id}
 use Rattle.vm_ids.specs.IdRequests.{Peeks}

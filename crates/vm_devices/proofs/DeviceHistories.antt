@@ -3,7 +3,7 @@ use Rattle.std.proofs.Common.{◌≡◌, ◌≢◌, ℕ, ◌<◌, ◌⊎◌, Lis
 use Rattle.std.specs.Ordering.{nat_cmp}
 use Rattle.std.specs.FinMap as map
 use Rattle.vm_ranges.specs.Range.{Range, MAX, Overlaps, Covers}
-use Rattle.vm_addresses.specs.Address.{holding, releasing}
+use Rattle.vm_ranges.specs.Address.{holding, releasing}
 use Rattle.vm_ids.specs.Ids.{IsOfRange}
 use Rattle.vm_addresses.proofs.Results.AddressResults.{lie_apart}
 use Rattle.vm_addresses.proofs.Callers.{given, request_fits, request_inside}

@@ -9,7 +9,7 @@ use Rattle.vm_ranges.specs.Range.{Range, Covers, address_count}
 use Rattle.vm_ranges.specs.Request.{Request}
 use Rattle.vm_ranges.specs.declared.error.Error.{Error}
 use Rattle.vm_ranges.specs.declared.error.Error.TheVariants.{NeverAllocated, OutOfMemory}
-use Rattle.vm_addresses.specs.Address.{AddressState, releasing}
+use Rattle.vm_ranges.specs.Address.{AddressState, releasing}
 use Rattle.vm_addresses.specs.Moves.{MovesRange, replacing}
 use Rattle.vm_addresses.proofs.Callers.{given, one_start, range_was_free, frees_held, request_fits, request_inside}
 use Rattle.vm_addresses.proofs.Histories.MoveSteps.{moved_parts, move_state}

@@ -4,8 +4,8 @@ use Rattle.std.specs.FinMap as map
 use Rattle.vm_ranges.proofs.Steps.{map_some}
 use Rattle.vm_ranges.specs.Range.{Range, IsIn}
 use Rattle.vm_ranges.specs.Request.{Request}
-use Rattle.vm_addresses.specs.Address.{AddressState}
-use Rattle.vm_addresses.specs.Answer.{Allocates}
+use Rattle.vm_ranges.specs.Address.{AddressState}
+use Rattle.vm_ranges.specs.Answer.{Allocates}
 use Rattle.vm_ids.specs.Ids.{IsNotHeld}
 use Rattle.vm_addresses.proofs.Callers.{one_start, start_was_free}
 use Rattle.vm_devices.specs.Devices.{DeviceState, IsDevice, IsDeviceState}

@@ -3,9 +3,9 @@ use Rattle.std.proofs.Common.{◌≡◌, ◌≢◌, ℕ, ◌⊎◌, arith, refl,
 use Rattle.std.specs.FinMap as map
 use Rattle.vm_ranges.proofs.NumberSets.{from_removed}
 use Rattle.vm_ranges.specs.Range.{Range, address_count}
-use Rattle.vm_addresses.specs.Address.{AddressState, holding, releasing}
+use Rattle.vm_ranges.specs.Address.{AddressState, holding, releasing}
 use Rattle.vm_ranges.specs.Request.{Request, request_for}
-use Rattle.vm_addresses.specs.Answer.{Allocates}
+use Rattle.vm_ranges.specs.Answer.{Allocates}
 use Rattle.vm_ids.specs.Ids.{IdState, IsOfRange, AreAllHeld, ByLowestNotHeld, PeeksId, releasing_id}
 use Rattle.vm_ids.specs.IdRequests.{Peeks}
 use Rattle.vm_ids.specs.declared.id_request.IdRequest.{IdRequest}

@@ -2,7 +2,7 @@
 use Rattle.std.proofs.Common.{◌≡◌, ◌≢◌, ℕ, sym, ap, ◌∙◌, arith, inl, inr, ◌⊎◌, ⊎_elim, subst, Option, Some, None, MatchOption, Result, Ok, Err}
 use Rattle.vm_ranges.specs.Range.{Range}
 use Rattle.vm_ranges.specs.Request.{Request}
-use Rattle.vm_addresses.specs.Address.{AddressState}
+use Rattle.vm_ranges.specs.Address.{AddressState}
 use Rattle.vm_ids.specs.Ids.{IdState}
 use Rattle.vm_ranges.specs.declared.error.Error.{Error}
 use Rattle.vm_ranges.specs.declared.error.Error.TheVariants.{NeverAllocated, OutOfMemory}

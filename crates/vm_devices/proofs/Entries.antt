@@ -42,7 +42,7 @@ use Rattle.vm_ids.proofs.Ids.RisingIds.{keys_rise, entries_of_sorted}
 use Rattle.vm_addresses.proofs.Callers.{ranges_listed}
 use Rattle.vm_ids.proofs.Ids.IdCounts.{ids_listed}
 use Rattle.vm_devices.specs.Queries.{device_of, entry_of}
-use Rattle.vm_addresses.specs.Address.{AddressState, IsAddressState}
+use Rattle.vm_ranges.specs.Address.{AddressState, IsAddressState}
 use Rattle.vm_ids.specs.Ids.{IdState, IsHeld, held_count}
 use Rattle.vm_devices.specs.Devices.{DeviceState, ArePaired}
 

@@ -3,8 +3,8 @@ use Rattle.std.proofs.Common.{◌≡◌, ◌≢◌, ℕ, refl, ap, arith, inl, O
 use Rattle.std.specs.FinMap as map
 use Rattle.vm_ranges.specs.Range.{Range}
 use Rattle.vm_ranges.specs.Request.{Request}
-use Rattle.vm_addresses.specs.Address.{AddressState}
-use Rattle.vm_addresses.specs.Answer.{Allocates}
+use Rattle.vm_ranges.specs.Address.{AddressState}
+use Rattle.vm_ranges.specs.Answer.{Allocates}
 use Rattle.vm_ids.specs.Ids.{IdState}
 use Rattle.vm_ids.specs.declared.id_request.IdRequest.{IdRequest}
 use Rattle.vm_ranges.specs.declared.error.Error.{Error}

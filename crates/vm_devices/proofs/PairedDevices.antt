@@ -41,7 +41,7 @@ use Rattle.std.specs.FinMap as map
 use Rattle.vm_ranges.proofs.Steps.{map_some}
 use Rattle.vm_ranges.specs.Cases.{IsTestOf}
 use Rattle.vm_ranges.specs.Range.{Range}
-use Rattle.vm_addresses.specs.Address.{AddressState, IsAddressState}
+use Rattle.vm_ranges.specs.Address.{AddressState, IsAddressState}
 use Rattle.vm_addresses.proofs.Callers.{one_start}
 use Rattle.vm_ids.specs.Ids.{IdState, IsHeld, held_count}
 use Rattle.vm_ids.proofs.Ids.RisingIds.{entries_of_sorted}

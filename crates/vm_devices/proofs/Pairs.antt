@@ -2,12 +2,12 @@
 use Rattle.std.proofs.Common.{◌≡◌, ℕ, refl, sym, ap, ◌∙◌, arith, inl, inr, ⊎_elim, subst, Some, IsSome, Ok}
 use Rattle.std.specs.List.{Contains}
 use Rattle.vm_ranges.specs.Range.{Range}
-use Rattle.vm_addresses.specs.Address.{holding, releasing}
+use Rattle.vm_ranges.specs.Address.{holding, releasing}
 use Rattle.vm_ranges.specs.Request.{Request}
-use Rattle.vm_addresses.specs.Answer.{Allocates, Frees}
-use Rattle.vm_addresses.specs.Laws.AddressLaws.{AddsRange, RemovesRange}
+use Rattle.vm_ranges.specs.Answer.{Allocates, Frees}
+use Rattle.vm_addresses.specs.Facts.{AddsRange, RemovesRange}
 use Rattle.vm_ids.specs.Ids.{IsHeld, IsNotHeld, FreesId, releasing_id}
-use Rattle.vm_ids.specs.Laws.IdLaws.{RemovesId}
+use Rattle.vm_ids.specs.Facts.{RemovesId}
 use Rattle.vm_addresses.proofs.Results.AddressResults.{adds_range, removes_range, state_is_preserved}
 use Rattle.vm_ids.proofs.Ids.IdResults.{freed_ids_state, freeing_removes}
 use Rattle.vm_ids.proofs.Ids.IdSets.{inserted_test}

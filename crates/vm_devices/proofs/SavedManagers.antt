@@ -69,7 +69,7 @@ use Rattle.std.specs.FinMap as map
 use Rattle.vm_ranges.specs.declared.saved.SavedError.TheVariants as saved_errors
 use Rattle.vm_ranges.specs.declared.saved.ValueError.{ValueError}
 use Rattle.vm_ranges.specs.declared.saved.ValueError.TheVariants.{NotAState, OutOfMemory}
-use Rattle.vm_addresses.specs.Address.{AddressState}
+use Rattle.vm_ranges.specs.Address.{AddressState}
 use Rattle.vm_ids.specs.Ids.{IdState}
 use Rattle.vm_addresses.specs.Values.AllocatorValues.{EncodesAddresses}
 use Rattle.vm_ids.specs.Values.IdValues.{EncodesIds}

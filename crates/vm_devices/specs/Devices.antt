@@ -5,9 +5,9 @@ use Rattle.std.specs.Ordering.{nat_cmp}
 use Rattle.std.specs.Coded.{Coded, code_by, coded×, coded_ℕ}
 use Rattle.std.specs.FinMap as map
 use Rattle.vm_ranges.specs.Range.{Range, range_code}
-use Rattle.vm_addresses.specs.Address.{AddressState, address_state_code, IsAddressState, holding, releasing}
+use Rattle.vm_ranges.specs.Address.{AddressState, address_state_code, IsAddressState, holding, releasing}
 use Rattle.vm_ranges.specs.Request.{Request}
-use Rattle.vm_addresses.specs.Answer.{Allocates, Makes}
+use Rattle.vm_ranges.specs.Answer.{Allocates, Makes}
 use Rattle.vm_addresses.specs.Moves.{MovesRange, replacing}
 use Rattle.vm_ids.specs.Ids.{IdState, id_state_code, IsHeld, IsIdState, MakesIds, holding_id, releasing_id}
 use Rattle.vm_ids.specs.IdRequests.{Peeks}

@@ -7,7 +7,7 @@ use Rattle.vm_ranges.specs.Range.{Range, MAX, Covers, span}
 use Rattle.vm_ranges.specs.Request.{Request}
 use Rattle.vm_ranges.specs.Cloning.{Clones}
 use Rattle.vm_ranges.specs.Histories.{CallOf, IsHistory}
-use Rattle.vm_addresses.specs.Address.{AddressState, IsAddressState}
+use Rattle.vm_ranges.specs.Address.{AddressState, IsAddressState}
 use Rattle.vm_ids.specs.Ids.{MAX_ID, IdState, IsIdState}
 use Rattle.vm_ids.specs.declared.id_request.IdRequest.{IdRequest}
 use Rattle.vm_devices.specs.declared.device_slot.DeviceSlot.{DeviceSlot}

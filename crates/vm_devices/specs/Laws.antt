@@ -10,8 +10,8 @@ use Rattle.vm_ranges.specs.Range.{Range, MAX, IsIn, Overlaps, Covers, address_co
 use Rattle.vm_ranges.specs.Request.{Request, request_for}
 use Rattle.vm_ranges.specs.Histories.{EveryCallIsAnswered, CallsAreDetermined}
 use Rattle.vm_ranges.specs.Texts.{IsTextOf, Parses}
-use Rattle.vm_addresses.specs.Answer.{SPLIT_LIMIT_MIN_HELD}
-use Rattle.vm_addresses.specs.Address.{AddressState}
+use Rattle.vm_ranges.specs.Answer.{SPLIT_LIMIT_MIN_HELD}
+use Rattle.vm_ranges.specs.Address.{AddressState}
 use Rattle.vm_ids.specs.Ids.{IdState, IsOfRange, held_count, held_ids}
 use Rattle.vm_ids.specs.declared.id_request.IdRequest.{IdRequest}
 use Rattle.vm_ids.specs.declared.id_request.IdRequest.TheVariants.{Lowest, Exact}

@@ -14,7 +14,7 @@ use Rattle.vm_ranges.specs.RangeValues.{decoded_range}
 use Rattle.vm_ranges.specs.declared.saved.Condition.TheVariants.{Devices}
 use Rattle.vm_ranges.specs.declared.saved.SavedError.{SavedError}
 use Rattle.vm_ranges.specs.declared.saved.SavedError.TheVariants.{Violated, OutOfMemory}
-use Rattle.vm_addresses.specs.Address.{AddressState}
+use Rattle.vm_ranges.specs.Address.{AddressState}
 use Rattle.vm_addresses.specs.Checks.AllocatorChecks.{WritesAllocator}
 use Rattle.vm_ids.specs.Ids.{IdState, IsHeld}
 use Rattle.vm_leaf.specs.declared.block.Block.{Block}

@@ -10,8 +10,6 @@ pub mod FreedIds
 pub mod IdRows
 pub mod IdResults
 pub mod EveryIdCall
-pub mod AlongIdHistories
-pub mod IdEnds
 pub mod AscendingNumbers
 pub mod AscendingBounds
 pub mod ReadIdStates
@@ -23,6 +21,5 @@ pub mod LowestIds
 pub mod PeekedIds
 pub mod FreeIds
 pub mod WithHeld
-pub mod IdsInTurn
 pub mod SameIdCalls
 pub mod NestedIds

@@ -3,6 +3,6 @@ pub mod IdRequests
 pub mod IdOrder
 pub mod FreedLists
 pub mod Histories
-pub mod Laws
 pub mod Values
 pub mod Checks
+pub mod Facts

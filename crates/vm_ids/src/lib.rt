@@ -21,7 +21,6 @@
 
 mod id_allocator;
 mod id_request;
-mod laws;
 mod saved;
 
 pub use id_allocator::{FreedIds, HeldIds, IdAllocator};

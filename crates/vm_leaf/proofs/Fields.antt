@@ -1,10 +1,9 @@
 -- The blocks of a leaf by its fields.
-use Rattle.std.proofs.Common.{◌≡◌, ℕ, ◌+◌, ◌-◌, ◌^◌, ◌<◌, ◌≤◌, List, [], length, get_or, take, drop, refl, ap, ◌∙◌, sym, arith, length-take-le, pow_mono}
+use Rattle.std.proofs.Common.{◌≡◌, ℕ, ◌+◌, ◌-◌, ◌^◌, ◌<◌, ◌≤◌, List, [], length, get_or, take, drop, refl, ap, ◌∙◌, sym, arith, length-take-le, pow_mono, true, false, ltb, leb, inl, inr}
 use Rattle.std.proofs.lemmas.List.{drop_more, drop_all, get_or-take}
 use Rattle.vm_leaf.specs.Block.{Block}
 use Rattle.vm_leaf.specs.Blocks.{nth}
 use Rattle.std.specs.Prelude.{◌&&◌}
-use Rattle.std.proofs.Common.{true, false, ltb, leb, inl, inr}
 use Rattle.std.proofs.lemmas.Bool.{and_parts, ltb-true, leb-true, lt-ltb, le-leb, cases_lt}
 use Rattle.vm_ranges.specs.Range.{IsRange}
 use Rattle.vm_leaf.specs.Leaf.{tiling, encoded_blocks, IsInside}

@@ -23,3 +23,4 @@ pub mod Gaps
 pub mod Edges
 pub mod Pushes
 pub mod Raised
+pub mod Spaces

@@ -12,3 +12,5 @@ pub mod Walks
 pub mod Starts
 pub mod States
 pub mod Windows
+pub mod SpaceBlocks
+pub mod TreeHeights

@@ -1,7 +1,7 @@
 -- Lines have one output and leave one machine, if memory suffices.
 use Rattle.std.proofs.Common.{◌≡◌, ◌≢◌, ℕ, ◌↔◌, Bool, true, false, List, [], ◌∷◌, ◌++◌, refl, sym, ap, ◌∙◌, subst, Option, Some, None, Result, Err}
 use Rattle.std.specs.Prelude.{IsTrue}
-use Rattle.vm_addresses.specs.Address.{AddressState}
+use Rattle.vm_ranges.specs.Address.{AddressState}
 use Rattle.vm_ranges.specs.Request.{Request, request_for}
 use Rattle.vm_ids.specs.Ids.{IdState, IsHeld}
 use Rattle.vm_ranges.specs.declared.constraint.AllocPolicy.TheVariants.{FirstMatch, LastMatch, ExactMatch}

@@ -4,8 +4,8 @@ use Rattle.std.specs.Prelude.{◌≡◌, ◌↔◌, ℕ, Bool, IsTrue, Option, S
 use Rattle.std.specs.Coded.{Coded, code_by, coded×, coded_option}
 use Rattle.vm_ranges.specs.Cases.{Unless}
 use Rattle.vm_ranges.specs.Range.{Range, IsRange}
-use Rattle.vm_addresses.specs.Address.{AddressState, address_state_code}
-use Rattle.vm_addresses.specs.Answer.{Allocates, Frees, Makes}
+use Rattle.vm_ranges.specs.Address.{AddressState, address_state_code}
+use Rattle.vm_ranges.specs.Answer.{Allocates, Frees, Makes}
 use Rattle.vm_ranges.specs.Request.{Request, request_for}
 use Rattle.vm_ids.specs.Ids.{IdState, id_state_code, IsHeld, MakesIds, AllocatesId, FreesId}
 use Rattle.vm_ranges.specs.declared.constraint.AllocPolicy.TheVariants.{FirstMatch, LastMatch, ExactMatch}

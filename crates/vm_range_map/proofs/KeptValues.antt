@@ -5,8 +5,8 @@ use Rattle.std.specs.FinMap as map
 use Rattle.vm_ranges.specs.Range.{Range, IsIn, IsInNone, Overlaps}
 use Rattle.vm_ranges.specs.Request.{Request}
 use Rattle.vm_ranges.specs.declared.error.Error.{Error}
-use Rattle.vm_addresses.specs.Address.{AddressState, IsAddressState, holding, releasing}
-use Rattle.vm_addresses.specs.Answer.{Allocates}
+use Rattle.vm_ranges.specs.Address.{AddressState, IsAddressState, holding, releasing}
+use Rattle.vm_ranges.specs.Answer.{Allocates}
 use Rattle.vm_addresses.specs.Moves.{MovesRange}
 use Rattle.vm_addresses.proofs.Callers.{given, one_start, frees_held}
 use Rattle.vm_addresses.proofs.Histories.MoveSteps.{moved_parts}

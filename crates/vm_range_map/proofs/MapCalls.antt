@@ -7,8 +7,8 @@ use Rattle.vm_ranges.specs.Range.{Range, MAX, Covers, address_count}
 use Rattle.vm_ranges.specs.Request.{Request, MakesConstraint}
 use Rattle.vm_ranges.specs.declared.error.Error.{Error}
 use Rattle.vm_ranges.specs.declared.error.Error.TheVariants.{OutOfMemory}
-use Rattle.vm_addresses.specs.Address.{AddressState, releasing}
-use Rattle.vm_addresses.specs.Answer.{Allocates, Frees, Makes}
+use Rattle.vm_ranges.specs.Address.{AddressState, releasing}
+use Rattle.vm_ranges.specs.Answer.{Allocates, Frees, Makes}
 use Rattle.vm_addresses.specs.Moves.{MovesRange, replacing}
 use Rattle.vm_addresses.specs.Queries.{IsHeldAt}
 use Rattle.vm_addresses.proofs.Callers.{given, request_fits, request_inside}

@@ -5,8 +5,8 @@ use Rattle.std.specs.Ordering.{nat_cmp}
 use Rattle.std.specs.FinMap as map
 use Rattle.vm_ranges.specs.Range.{Range, MAX}
 use Rattle.vm_ranges.specs.Request.{Request}
-use Rattle.vm_addresses.specs.Address.{AddressState, holding, releasing}
-use Rattle.vm_addresses.specs.Answer.{Allocates, Makes}
+use Rattle.vm_ranges.specs.Address.{AddressState, holding, releasing}
+use Rattle.vm_ranges.specs.Answer.{Allocates, Makes}
 use Rattle.vm_addresses.specs.Moves.{MovesRange}
 use Rattle.vm_addresses.proofs.Callers.{given, one_start, start_was_free, frees_held}
 use Rattle.vm_addresses.proofs.Histories.MoveSteps.{moved_parts}

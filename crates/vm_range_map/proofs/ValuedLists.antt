@@ -44,8 +44,8 @@ use Rattle.std.specs.FinMap.Entries.{below_all, is_sorted, find, put, same_entri
 use Rattle.std.specs.FinMap as map
 use Rattle.vm_ranges.specs.Range.{Range}
 use Rattle.vm_ranges.proofs.Items.{less}
-use Rattle.vm_tree.specs.Building.{AreInOrder}
-use Rattle.vm_addresses.proofs.Blocks.PlainWords.{IsHeld, contains_held, held_contains}
+use Rattle.vm_ranges.specs.Address.{AreInOrder}
+use Rattle.vm_ranges.proofs.PlainWords.{IsHeld, contains_held, held_contains}
 use Rattle.vm_chunks.specs.Entries.{IsDescendingBy}
 use Rattle.vm_range_map.specs.declared.range_map.value_table.ValueAt.{ValueAt}
 use Rattle.vm_range_map.specs.RangeMaps.{MapState, IsMapState}

@@ -8,8 +8,8 @@ use Rattle.vm_ranges.specs.Range.{Range, IsIn, IsInNone}
 use Rattle.vm_ranges.specs.Request.{Request}
 use Rattle.vm_ranges.specs.declared.error.Error.{Error}
 use Rattle.vm_ranges.specs.declared.error.Error.TheVariants.{ResourceNotAvailable, OutOfMemory}
-use Rattle.vm_addresses.specs.Address.{AddressState, IsAddressState, holding, releasing}
-use Rattle.vm_addresses.specs.Answer.{Allocates, Makes}
+use Rattle.vm_ranges.specs.Address.{AddressState, IsAddressState, holding, releasing}
+use Rattle.vm_ranges.specs.Answer.{Allocates, Makes}
 use Rattle.vm_addresses.specs.Moves.{MovesRange}
 use Rattle.vm_range_map.specs.declared.valued_range.ValuedRange.{ValuedRange}
 

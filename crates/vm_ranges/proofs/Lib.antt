@@ -20,3 +20,4 @@ pub mod ReadRanges
 pub mod ReadStates
 pub mod ReadTexts
 pub mod Histories
+pub mod PlainWords

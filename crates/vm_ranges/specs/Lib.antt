@@ -14,3 +14,6 @@ pub mod Lists
 pub mod RangeValues
 pub mod RangeLaws
 pub mod Histories
+pub mod Address
+pub mod Windows
+pub mod Answer

@@ -61,6 +61,9 @@ impl Model for Constraint {
     ghost inverse = { λ d. record { size = d.size; align = d.align; policy = d.policy; window = d.window } };
 }
 
+/// If this many ranges are allocated, no gap is split. So no tree gets too high.
+pub const SPLIT_LIMIT: u64 = 6_293_134_512;
+
 impl Constraint {
     /// Creates a request for `size` addresses that start at a multiple of `align`.
     ///

@@ -1,6 +1,5 @@
 //! The errors of calls, with the texts of vm-allocator.
-ghost use Rattle.std.specs.Prelude.{◌≡◌};
-ghost use Rattle.std.specs.Prelude.{None};
+ghost use Rattle.std.specs.Prelude.{◌≡◌, None};
 ghost use Rattle.vm_ranges.specs.declared.error.Error.TheVariants.{OutOfMemory};
 
 use crate::range::RangeInclusive;

@@ -30,7 +30,7 @@ mod saved;
 mod state;
 
 pub use alignment::{align_down, align_up};
-pub use constraint::{AllocPolicy, Constraint, DEFAULT_CONSTRAINT_ALIGN};
+pub use constraint::{AllocPolicy, Constraint, DEFAULT_CONSTRAINT_ALIGN, SPLIT_LIMIT};
 pub use error::{Error, ListError, Result};
 pub use range::RangeInclusive;
 pub use saved::fields::{has_fields, list_in};

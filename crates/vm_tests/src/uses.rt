@@ -18,7 +18,7 @@ use vm_allocator::{
 };
 
 /// Allocates a bar, which must start at a multiple of its size.
-#[tactic(auto, using(vm_allocator::proofs::Callers::callers))]
+#[tactic(auto, using(vm_laws::proofs::Callers::callers))]
 fn place_bar(alloc: Global, gap: &mut AddressAllocator, size: u64) -> Result<RangeInclusive>
     ensures aligned { IfOk result (λ bar. bar.start % size ≡ 0) }
     ensures long { IfOk result (λ bar. address_count bar ≡ size) }
@@ -27,7 +27,7 @@ fn place_bar(alloc: Global, gap: &mut AddressAllocator, size: u64) -> Result<Ran
 }
 
 /// Frees a slot and allocates it again, as for a device that is unplugged and plugged in.
-#[tactic(auto, using(vm_allocator::proofs::Callers::callers))]
+#[tactic(auto, using(vm_laws::proofs::Callers::callers))]
 fn replug(
     alloc: Global,
     memory: &mut AddressAllocator,
@@ -44,7 +44,7 @@ fn replug(
 }
 
 /// Allocates an interrupt number for a device, which no other device has.
-#[tactic(auto, using(vm_allocator::proofs::Callers::callers))]
+#[tactic(auto, using(vm_laws::proofs::Callers::callers))]
 fn take_interrupt(numbers: &mut IdAllocator) -> Result<u32>
     ensures nobodys { IfOk result (λ number. ¬ IsHeld numbers.old number) }
     ensures held { IfOk result (λ number. IsHeld numbers.new number) }
@@ -66,7 +66,7 @@ pub(crate) fn parsed_again(alloc: Global, value: &Value) -> std::result::Result<
 }
 
 /// Returns the allocator that is read from the text of another, with the same state.
-#[tactic(auto, using(vm_allocator::proofs::Callers::through_text))]
+#[tactic(auto, using(vm_laws::proofs::Callers::through_text))]
 fn space_through_text(
     alloc: Global,
     mmio: &AddressAllocator,
@@ -80,7 +80,7 @@ fn space_through_text(
 }
 
 /// Returns the id allocator that is read from the text of another: the same one.
-#[tactic(auto, using(vm_allocator::proofs::Callers::through_text))]
+#[tactic(auto, using(vm_laws::proofs::Callers::through_text))]
 fn ids_through_text(
     alloc: Global,
     ids: &IdAllocator,
@@ -147,7 +147,7 @@ fn use_bar(rt: &(impl Abort + AllocGlobal), gap: &mut AddressAllocator) {
 }
 
 /// Unplugs a slot of a memory, and plugs it in.
-#[tactic(auto, using(vm_allocator::proofs::Callers::callers))]
+#[tactic(auto, using(vm_laws::proofs::Callers::callers))]
 fn use_memory(rt: &(impl Abort + AllocGlobal)) {
     let mut memory = made(rt, 0x1_0000_0000, 0x4000_0000);
     let slot = memory

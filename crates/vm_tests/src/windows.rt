@@ -8,7 +8,7 @@ use std::alloc::Global;
 use vm_allocator::{AddressAllocator, AllocPolicy, RangeInclusive, Result, ValueError};
 
 /// Two windows of a page each in the gap below 4 GiB.
-#[tactic(auto, using(vm_allocator::proofs::Callers::callers))]
+#[tactic(auto, using(vm_laws::proofs::Callers::callers))]
 pub fn windows(alloc: Global) -> Result<(RangeInclusive, RangeInclusive)>
     ensures { IfOk result (λ both. ¬ Overlaps both.0 both.1) }
 {
@@ -19,7 +19,7 @@ pub fn windows(alloc: Global) -> Result<(RangeInclusive, RangeInclusive)>
 }
 
 /// The allocator that is read from what is written of another, with the same state.
-#[tactic(auto, using(vm_allocator::proofs::Callers::callers))]
+#[tactic(auto, using(vm_laws::proofs::Callers::callers))]
 pub fn restored(
     alloc: Global,
     mmio: &AddressAllocator,

@@ -30,7 +30,9 @@ use Rattle.vm_leaf.specs.declared.block.Block.{Block}
 use Rattle.vm_leaf.specs.Block.{free_block, held_block}
 use Rattle.vm_leaf.specs.Blocks.{Tiles, start_of, IsLeaf, IsRun}
 use Rattle.vm_leaf.specs.declared.leaf.TheConstants.{CAPACITY}
-use Rattle.vm_tree.specs.Building.{AreInOrder, gap_before, blocks_between, remaining_blocks, IsBlockCursor}
+use Rattle.vm_tree.specs.Building.{remaining_blocks, IsBlockCursor}
+use Rattle.vm_leaf.specs.SpaceBlocks.{blocks_between, gap_before}
+use Rattle.vm_ranges.specs.Address.{AreInOrder}
 use Rattle.vm_tree.specs.declared.build.BlockCursor.{BlockCursor}
 use Rattle.vm_tree.proofs.Lists.{cover_left, cover_leaf}
 

@@ -43,7 +43,8 @@ use Rattle.vm_leaf.proofs.Tiles.{tiles_part}
 use Rattle.vm_leaf.specs.declared.block.Block.{Block}
 use Rattle.vm_leaf.specs.Block.{free_length}
 use Rattle.vm_leaf.specs.Blocks.{Tiles, IsRun, start_of, end_of, longest_gap}
-use Rattle.vm_leaf.specs.Windows.{common, cut_to}
+use Rattle.vm_leaf.specs.Windows.{cut_to}
+use Rattle.vm_ranges.specs.Windows.{common}
 use Rattle.vm_tree.specs.Shape.{Shape, Tip, Fork, blocks, height_of, node_count, HasFullLeaves}
 use Rattle.vm_tree.specs.NodeCounts.{has_aligned, has_fit, has_fit_in, may_fit_in, nodes_of_both, nodes_of_search}
 use Rattle.vm_tree.specs.declared.end.End.{End}

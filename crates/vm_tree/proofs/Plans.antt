@@ -32,7 +32,8 @@ use Rattle.vm_leaf.specs.declared.block.Block.{Block}
 use Rattle.vm_leaf.specs.Block.{held_block}
 use Rattle.vm_leaf.specs.declared.leaf.TheConstants.{CAPACITY, MIN_BLOCKS}
 use Rattle.vm_tree.specs.Shape.{Shape, blocks, height_of}
-use Rattle.vm_tree.specs.Building.{blocks_between, gap_before, IsPlan, IsBuilt, IsBuiltTree}
+use Rattle.vm_tree.specs.Building.{IsPlan, IsBuilt, IsBuiltTree}
+use Rattle.vm_leaf.specs.SpaceBlocks.{blocks_between, gap_before}
 use Rattle.vm_tree.proofs.Built.{left_over, half_low, nodes_of_leaves}
 
 -- A space has a block.

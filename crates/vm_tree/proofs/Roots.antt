@@ -29,7 +29,9 @@ use Rattle.std.proofs.lemmas.Bool.{cases_lt, cases_Bool, le-ltb, true≢false}
 use Rattle.vm_ranges.specs.Range.{Range, IsRange, MAX}
 use Rattle.vm_leaf.specs.Blocks.{IsRun, IsLeaf, parts}
 use Rattle.vm_leaf.specs.declared.block.Block.{Block}
-use Rattle.vm_tree.specs.Building.{AreInOrder, blocks_between, IsBuiltTree}
+use Rattle.vm_tree.specs.Building.{IsBuiltTree}
+use Rattle.vm_leaf.specs.SpaceBlocks.{blocks_between}
+use Rattle.vm_ranges.specs.Address.{AreInOrder}
 use Rattle.vm_tree.specs.Allocation.{IsSearch, AllocatesExact, AllocatesFit, SplitsAt, range_at, window_of}
 use Rattle.vm_tree.specs.Growth.{IsSubtree, IsChild, GrowsBy, GrowsIfOk}
 use Rattle.vm_tree.specs.NodeCounts.{may_fit_in, nodes_of_search, nodes_to_address, nodes_to_fit}

@@ -29,10 +29,10 @@ use Rattle.std.proofs.Common.{
   length-take-le,
 }
 use Rattle.vm_leaf.specs.declared.block.Block.{Block}
-use Rattle.vm_leaf.specs.Blocks.{start_of}
-use Rattle.vm_leaf.specs.Blocks.{IsRun}
+use Rattle.vm_leaf.specs.Blocks.{start_of, IsRun}
 use Rattle.vm_leaf.specs.declared.leaf.TheConstants.{CAPACITY, MIN_BLOCKS}
-use Rattle.vm_tree.specs.Shape.{Shape, Tip, Fork, blocks, height_of, leaf_count, DifferByAtMost, HasFullLeaves, IsRooted, IsTree}
+use Rattle.vm_tree.specs.Shape.{Shape, Tip, Fork, blocks, height_of, leaf_count, HasFullLeaves, IsRooted, IsTree}
+use Rattle.vm_leaf.specs.TreeHeights.{DifferByAtMost}
 use Rattle.vm_tree.specs.Mending.{leaf_len, end_len, JoinsNext, CanBalance, CanMend, Mends, JoinsLeaves, Shrinks, Loses, CanMendTree, MendsTree}
 use Rattle.vm_tree.specs.declared.end.End.{End}
 use Rattle.vm_tree.specs.declared.end.End.TheVariants.{First, Last}

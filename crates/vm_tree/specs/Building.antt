@@ -4,29 +4,11 @@ use Rattle.vm_ranges.specs.Range.{Range, MAX}
 use Rattle.vm_ranges.specs.declared.state.NodeState.TheVariants.{Free, Allocated}
 use Rattle.vm_leaf.specs.declared.block.Block.{Block}
 use Rattle.vm_leaf.specs.declared.leaf.TheConstants.{CAPACITY, MIN_BLOCKS}
-use Rattle.vm_tree.specs.Shape.{Shape, Tip, blocks, height_of, node_count, leaf_count, IsBalanced, HasFullLeaves, IsRooted, IsTree, MAX_HEIGHT}
+use Rattle.vm_tree.specs.Shape.{Shape, Tip, blocks, height_of, node_count, leaf_count, IsBalanced, HasFullLeaves, IsRooted, IsTree}
+use Rattle.vm_leaf.specs.TreeHeights.{MAX_HEIGHT, TOO_MANY_BLOCKS, IsLowestHeight}
 use Rattle.vm_tree.specs.declared.build.BlockCursor.{BlockCursor}
-
--- The ranges are in order from lo to hi, do not overlap, and do not contain MAX.
-abbrev pub AreInOrder : ℕ → List Range → ℕ → Type 0
-AreInOrder lo [] hi = Unit {0}
-AreInOrder lo (r ∷ rs) hi =
-    (lo ≤ r.start) × (r.start ≤ r.end) × (r.end ≤ hi) × (r.end < MAX) × AreInOrder (r.end + 1) rs hi
-
--- The free block from lo to next - 1, if it is not empty.
-abbrev pub gap_before : ℕ → ℕ → List Block
-gap_before lo next =
-    if nat_lt lo next then record { key = record { start = lo; end = next - 1 }; state = Free } ∷ [] else []
-
--- The blocks from lo to hi if these ranges are held: the gaps and the ranges, in order.
-abbrev pub blocks_between : ℕ → List Range → ℕ → List Block
-blocks_between lo [] hi = gap_before lo (hi + 1)
-blocks_between lo (r ∷ rs) hi =
-    gap_before lo r.start ++ record { key = r; state = Allocated } ∷ blocks_between (r.end + 1) rs hi
-
--- A tree of this many blocks or more is too high.
-abbrev pub TOO_MANY_BLOCKS : ℕ
-TOO_MANY_BLOCKS = 2 ^ 49
+use Rattle.vm_ranges.specs.Address.{AreInOrder}
+use Rattle.vm_leaf.specs.SpaceBlocks.{blocks_between}
 
 -- The blocks that are not built yet: the gaps and the held ranges.
 abbrev pub remaining_blocks : BlockCursor → List Block
@@ -38,10 +20,6 @@ pub record IsBlockCursor (cursor : BlockCursor) : Type 0 where
   pub within : cursor.next ≤ cursor.end + 1
   pub upto : cursor.end ≤ MAX
   pub not_all : cursor.next ≡ 0 → cursor.end < MAX
-
--- No tree of n nodes is lower than h, and a tree that is filled from the middle has this height.
-abbrev pub IsLowestHeight : ℕ → ℕ → Type 0
-IsLowestHeight n h = (n + 1 ≤ 2 ^ h) × (2 ^ h ≤ 2 * n + 1)
 
 -- The leaves can have `each` blocks, and the first `more` leaves one block more.
 pub record IsPlan (leaves each more : ℕ) : Type 0 where

@@ -3,7 +3,8 @@ use Rattle.std.specs.Prelude.{◌≡◌, ◌≢◌, ℕ, ◌+◌, ◌≤◌, ◌
 use Rattle.vm_leaf.specs.Blocks.{longest_gap, IsRun}
 use Rattle.vm_leaf.specs.Multiples.{most_alignments}
 use Rattle.vm_leaf.specs.declared.leaf.TheConstants.{MIN_BLOCKS}
-use Rattle.vm_tree.specs.Shape.{Shape, blocks, height_of, IsTree, MAX_HEIGHT}
+use Rattle.vm_tree.specs.Shape.{Shape, blocks, height_of, IsTree}
+use Rattle.vm_leaf.specs.TreeHeights.{MAX_HEIGHT}
 use Rattle.vm_tree.specs.Links.{side, IsFreeOf, IsSummed, stored_longest, stored_alignments, stored_height}
 use Rattle.vm_tree.specs.Mending.{Shrinks, Loses, CanMendTree, MendsTree}
 use Rattle.vm_tree.specs.declared.change.Change.{Change}

@@ -1,7 +1,8 @@
 -- A tree in which a range is allocated.
 use Rattle.std.specs.Prelude.{◌≡◌, ◌≢◌, ◌+◌, ◌<◌, ◌≤◌, ◌⊎◌, Bool, true, false, Result, Ok, Err, OnErr, IfOk}
 use Rattle.vm_leaf.specs.Blocks.{IsRun}
-use Rattle.vm_tree.specs.Shape.{Shape, Tip, Fork, blocks, height_of, IsBalanced, HasFullLeaves, IsTree, MAX_HEIGHT}
+use Rattle.vm_tree.specs.Shape.{Shape, Tip, Fork, blocks, height_of, IsBalanced, HasFullLeaves, IsTree}
+use Rattle.vm_leaf.specs.TreeHeights.{MAX_HEIGHT}
 use Rattle.vm_tree.specs.Links.{side, IsSummed}
 use Rattle.vm_tree.specs.Changes.{Keeps}
 use Rattle.vm_tree.specs.declared.change.Change.{Change}

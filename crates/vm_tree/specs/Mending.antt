@@ -3,7 +3,8 @@ use Rattle.std.specs.Prelude.{◌≡◌, ℕ, ◌+◌, ◌-◌, ◌≤◌, ◌<�
 use Rattle.vm_leaf.specs.declared.block.Block.{Block}
 use Rattle.vm_leaf.specs.Blocks.{IsRun}
 use Rattle.vm_leaf.specs.declared.leaf.TheConstants.{CAPACITY, MIN_BLOCKS}
-use Rattle.vm_tree.specs.Shape.{Shape, Tip, Fork, blocks, height_of, leaf_count, DifferByAtMost, IsBalanced, HasFullLeaves, IsTree}
+use Rattle.vm_tree.specs.Shape.{Shape, Tip, Fork, blocks, height_of, leaf_count, IsBalanced, HasFullLeaves, IsTree}
+use Rattle.vm_leaf.specs.TreeHeights.{DifferByAtMost}
 use Rattle.vm_tree.specs.declared.end.End.{End}
 use Rattle.vm_tree.specs.declared.end.End.TheVariants.{First, Last}
 

@@ -5,7 +5,8 @@ use Rattle.vm_leaf.specs.Blocks.{start_of, end_of, IsRun}
 use Rattle.vm_leaf.specs.declared.block.Block.{Block}
 use Rattle.vm_tree.specs.Heights.{IsLowTree}
 use Rattle.vm_tree.specs.Links.{side, IsSummed}
-use Rattle.vm_tree.specs.Shape.{Shape, MAX_HEIGHT, blocks, height_of, IsTree}
+use Rattle.vm_tree.specs.Shape.{Shape, blocks, height_of, IsTree}
+use Rattle.vm_leaf.specs.TreeHeights.{MAX_HEIGHT}
 use Rattle.vm_tree.specs.declared.tree.Tree.TheInside.{Inside}
 
 -- The tree is valid: it is balanced and its leaves have enough blocks, its blocks cover a range, and its height is below

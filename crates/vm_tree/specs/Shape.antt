@@ -2,6 +2,7 @@
 use Rattle.std.specs.Prelude.{ℕ, ◌+◌, ◌≤◌, ◌<◌, max, List, ◌++◌, length}
 use Rattle.vm_leaf.specs.declared.block.Block.{Block}
 use Rattle.vm_leaf.specs.declared.leaf.TheConstants.{CAPACITY, MIN_BLOCKS}
+use Rattle.vm_leaf.specs.TreeHeights.{MAX_HEIGHT, DifferByAtMost}
 
 -- A leaf with its blocks, or a left and a right subtree.
 pub data Shape : Type 0 where
@@ -28,17 +29,9 @@ abbrev pub leaf_count : Shape → ℕ
 leaf_count (Tip bs) = 1
 leaf_count (Fork l r) = leaf_count l + leaf_count r
 
--- A bound on the height. Between two calls every tree is lower, and no higher saved tree is read as that of an allocator.
-abbrev pub MAX_HEIGHT : ℕ
-MAX_HEIGHT = 49
-
 -- The height at which gaps are not split any more, so that no tree gets higher than that.
 abbrev pub SPLIT_HEIGHT : ℕ
 SPLIT_HEIGHT = 48
-
--- The heights l and r are at most `by` apart.
-abbrev pub DifferByAtMost : ℕ → ℕ → ℕ → Type 0
-DifferByAtMost by l r = (l ≤ r + by) × (r ≤ l + by)
 
 -- The heights of both children of each node are at most one apart.
 abbrev pub IsBalanced : Shape → Type 0

@@ -1,7 +1,8 @@
 //! Rotations. They move subtrees between nodes, and do not allocate.
 ghost use Rattle.std.specs.Prelude.{◌≡◌, ◌+◌, ◌<◌, max};
 ghost use Rattle.vm_leaf.specs.Blocks.{start_of};
-ghost use Rattle.vm_tree.specs.Shape.{blocks, height_of, MAX_HEIGHT};
+ghost use Rattle.vm_tree.specs.Shape.{blocks, height_of};
+ghost use Rattle.vm_leaf.specs.TreeHeights.{MAX_HEIGHT};
 ghost use Rattle.vm_tree.specs.Links.{side, IsSummed, AreSummed};
 ghost use Rattle.vm_tree.specs.Mending.{CanBalance, Mends};
 

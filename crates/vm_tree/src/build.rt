@@ -6,7 +6,10 @@ ghost use Rattle.std.specs.Prelude.{◌≡◌, ◌≢◌, ◌+◌, ◌*◌, ◌^
 ghost use Rattle.vm_ranges.specs.Range.{IsRange};
 ghost use Rattle.vm_leaf.specs.Blocks.{start_of};
 ghost use Rattle.vm_tree.specs.Links.{side, IsSummed};
-ghost use Rattle.vm_tree.specs.Building.{AreInOrder, blocks_between, remaining_blocks, IsBlockCursor, IsPlan, IsBuilt, IsBuiltTree, TOO_MANY_BLOCKS};
+ghost use Rattle.vm_tree.specs.Building.{remaining_blocks, IsBlockCursor, IsPlan, IsBuilt, IsBuiltTree};
+ghost use Rattle.vm_leaf.specs.TreeHeights.{TOO_MANY_BLOCKS};
+ghost use Rattle.vm_leaf.specs.SpaceBlocks.{blocks_between};
+ghost use Rattle.vm_ranges.specs.Address.{AreInOrder};
 
 use crate::link::{Link, Node, fork_link, leaf_link};
 use std::alloc::{AllocError, Global};

@@ -1,6 +1,7 @@
 //! The update of the links above a change.
 ghost use Rattle.std.specs.Prelude.{◌≡◌, ◌≢◌, ◌≤◌};
-ghost use Rattle.vm_tree.specs.Shape.{height_of, IsTree, MAX_HEIGHT};
+ghost use Rattle.vm_tree.specs.Shape.{height_of, IsTree};
+ghost use Rattle.vm_leaf.specs.TreeHeights.{MAX_HEIGHT};
 ghost use Rattle.vm_tree.specs.Links.{side, IsFreeOf, IsSummed, stored_longest, stored_alignments, stored_height};
 ghost use Rattle.vm_tree.specs.Mending.{CanMendTree, MendsTree};
 ghost use Rattle.vm_tree.specs.Changes.{Reports, CanUpdate, IsUpdated};

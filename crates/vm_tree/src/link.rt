@@ -1,7 +1,8 @@
 //! Links, nodes, and the summaries that are stored beside links.
 ghost use Rattle.std.specs.Prelude.{◌≡◌, ◌+◌, ◌<◌, ◌≤◌, max, length};
 ghost use Rattle.vm_leaf.specs.Blocks.{start_of};
-ghost use Rattle.vm_tree.specs.Shape.{Tip, Fork, blocks, height_of, MAX_HEIGHT};
+ghost use Rattle.vm_tree.specs.Shape.{Tip, Fork, blocks, height_of};
+ghost use Rattle.vm_leaf.specs.TreeHeights.{MAX_HEIGHT};
 ghost use Rattle.vm_tree.specs.Links.{side, IsFreeOf, IsSummed, AreSummed, stored_longest, stored_alignments, stored_height};
 
 use std::marker::Model;

@@ -5,7 +5,8 @@
 //! that node.
 ghost use Rattle.std.specs.Prelude.{◌≡◌, ◌+◌, ◌<◌, ◌≤◌, ◌++◌, length, max, IsTrue, MatchBool};
 ghost use Rattle.vm_leaf.specs.Blocks.{start_of, IsRun};
-ghost use Rattle.vm_tree.specs.Shape.{Tip, blocks, height_of, IsTree, MAX_HEIGHT};
+ghost use Rattle.vm_tree.specs.Shape.{Tip, blocks, height_of, IsTree};
+ghost use Rattle.vm_leaf.specs.TreeHeights.{MAX_HEIGHT};
 ghost use Rattle.vm_tree.specs.Links.{side, stored_height, IsSummed, AreSummed};
 ghost use Rattle.vm_tree.specs.Mending.{leaf_len, end_len, CanMend, CanMendTree, Mends, MendsTree, JoinsLeaves, JoinsNext};
 

@@ -33,8 +33,9 @@ type TriedCall = fn(&mut AddressAllocator) -> Tried;
 type EndedCall = fn(&mut AddressAllocator);
 
 // src/lib.rs: "Allocating or moving a range allocates a leaf and an inner node if its leaf would
-// have more than 32, and otherwise nothing, and `allocate_all` also three lists. A copy allocates
-// all leaves and nodes, `with_held` also a list, and `with_free` two."
+// have more than 32, and otherwise nothing. A move to a part of the gap that it leaves always
+// allocates both. `allocate_all` also allocates three lists. A copy allocates all leaves and nodes,
+// `with_held` also a list, and `with_free` two."
 
 /// Calls that return an error, each with the number of its allocations on [`full_leaf`]: one for each
 /// leaf and inner node of a new tree or of a copy, and two for a split of the full leaf. A call with

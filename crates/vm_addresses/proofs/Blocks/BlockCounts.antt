@@ -1,20 +1,20 @@
 -- The number of blocks before and after a range is added to the held ranges or removed from them.
-use Rattle.std.proofs.Common.{◌≡◌, ℕ, ◌+◌, ◌-◌, ◌<◌, ◌≤◌, List, [], ◌∷◌, length, length-append, refl, sym, ap, ◌∙◌, arith, inl, inr, ⊎_elim, subst, eq-eqb, Ok}
+use Rattle.std.proofs.Common.{◌≡◌, ℕ, ◌+◌, ◌-◌, ◌<◌, ◌≤◌, List, [], ◌∷◌, length, length-append, refl, sym, ap, ◌∙◌, arith, inl, inr, ⊎_elim, subst, eq-eqb, Ok, ◌*◌}
 use Rattle.std.proofs.lemmas.Bool.{cases_lt, lt-ltb, le-ltb, cases_eq, ne_eqb}
 use Rattle.vm_ranges.specs.Range.{Range, IsIn, span}
-use Rattle.vm_addresses.specs.Address.{AddressState, IsClear, with_range, without_range, holding, releasing}
-use Rattle.vm_tree.specs.Building.{AreInOrder}
-use Rattle.vm_tree.specs.Building.{gap_before, blocks_between}
-use Rattle.vm_addresses.specs.Tree.Blocks.{blocks_of}
-use Rattle.vm_ranges.specs.declared.state.NodeState.TheVariants.{Allocated}
-use Rattle.vm_addresses.specs.Laws.MemoryLaws.{block_count, IsOneIf, AreClearBeside, AllocationAddsParts, FreeingRemovesGaps, BlocksAreFew}
+use Rattle.vm_ranges.specs.Address.{AddressState, IsClear, with_range, without_range, holding, releasing, AreInOrder, IsAddressState}
+use Rattle.vm_leaf.specs.SpaceBlocks.{blocks_between, gap_before, blocks_of}
+use Rattle.vm_ranges.specs.declared.state.NodeState.TheVariants.{Allocated, Free}
+use Rattle.vm_addresses.specs.Facts.{block_count, IsOneIf, AreClearBeside}
 use Rattle.vm_addresses.proofs.Results.AddressResults.{gets, lies_clear, freed_held}
-use Rattle.vm_addresses.proofs.Blocks.PlainWords.{IsHeldAddress, IsHeld, all_miss, none_holds}
+use Rattle.vm_ranges.proofs.PlainWords.{IsHeldAddress, IsHeld, all_miss, none_holds}
 use Rattle.vm_addresses.proofs.Blocks.HeldChanges.{Misses, beside, misses_later, in_order_without, with_without}
 use Rattle.vm_addresses.proofs.Blocks.HeldSets.{one_start, later_above, held_lies}
-use Rattle.vm_addresses.proofs.Blocks.OneList.{few_blocks}
-use Rattle.vm_addresses.proofs.Comparing.Tilings.{held_of-blocks_of}
+use Rattle.vm_leaf.proofs.Spaces.OneList.{few_blocks}
+use Rattle.vm_leaf.proofs.Spaces.Tilings.{held_of-blocks_of}
 use Rattle.vm_tree.proofs.BlockCursors.{between_tiles}
+use Rattle.vm_ranges.specs.Request.{Request}
+use Rattle.vm_ranges.specs.Answer.{Allocates, Frees}
 
 -- ---- Counts of gaps
 abbrev count : ℕ → List Range → ℕ → ℕ
@@ -213,7 +213,8 @@ beside_after state r n l p =
       both = p.both;
     }
 
-pub allocation_adds : AllocationAddsParts
+pub allocation_adds : (old new : AddressState) (request : Request) (r : Range) → IsAddressState old → Allocates old request (Ok r) new →
+    (parts : ℕ) × AreClearBeside old r parts × (block_count new ≡ block_count old + parts)
 unfolding blocks_of
 allocation_adds old new request r i h =
     let lo = old.space.start in
@@ -229,7 +230,8 @@ allocation_adds old new request r i h =
     let left : new ≡ holding r old = g.left ∙ ap (λ (v : Range). holding v old) same in
     (given.0, given.1, ap block_count left ∙ given.2)
 
-pub freeing_removes : FreeingRemovesGaps
+pub freeing_removes : (old new : AddressState) (r : Range) → IsAddressState old → Frees old r (Ok tt) new →
+    (gaps : ℕ) × AreClearBeside old r gaps × (block_count old ≡ block_count new + gaps)
 unfolding blocks_of
 freeing_removes old new r i h =
     let lo = old.space.start in
@@ -247,7 +249,7 @@ freeing_removes old new r i h =
     (beside_after (releasing r old) r given.0 l.1 given.1) in
     (given.0, beside, given.2 ∙ ap (λ (v : AddressState). block_count v + given.0) (sym f.1))
 
-pub blocks_are_few : BlocksAreFew
+pub blocks_are_few : (state : AddressState) → IsAddressState state → block_count state ≤ 2 * length state.held + 1
 unfolding blocks_of
 blocks_are_few state i =
     let tiles = between_tiles state.space.start state.space.end state.held (omega (arith, i.space.0)) i.in_order in

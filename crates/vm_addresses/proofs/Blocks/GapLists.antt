@@ -4,13 +4,13 @@ use Rattle.std.proofs.lemmas.Bool.{cases_lt}
 use Rattle.vm_ranges.specs.Range.{Range, IsIn, address_count}
 use Rattle.vm_leaf.specs.declared.block.Block.{Block}
 use Rattle.vm_leaf.specs.Blocks.{Tiles}
-use Rattle.vm_addresses.specs.Tree.Blocks.{held_of}
+use Rattle.vm_leaf.specs.SpaceBlocks.{held_of}
 use Rattle.vm_addresses.specs.Queries.{free_of, longest_of, common_count, longest_part, count_of}
 use Rattle.vm_ranges.specs.declared.state.NodeState.{NodeState}
 use Rattle.vm_ranges.specs.declared.state.NodeState.TheVariants.{Free, Allocated}
-use Rattle.vm_addresses.proofs.Blocks.PlainWords.{IsHeldAddress, IsHeld}
-use Rattle.vm_addresses.proofs.Blocks.Gaps.{state_cases, not_both, tiles_end, InFreeBlock, next_held}
-use Rattle.vm_addresses.proofs.Blocks.OneList.{held_of-free, held_of-held}
+use Rattle.vm_ranges.proofs.PlainWords.{IsHeldAddress, IsHeld}
+use Rattle.vm_leaf.proofs.Spaces.Gaps.{state_cases, not_both, tiles_end, InFreeBlock, next_held}
+use Rattle.vm_leaf.proofs.Spaces.OneList.{held_of-free, held_of-held}
 use Rattle.vm_addresses.proofs.Walking.GapsInTrees.{free_of-free, free_of-held}
 
 -- ---- One block in front of a list

@@ -2,10 +2,9 @@
 use Rattle.std.proofs.Common.{◌≡◌, ◌≢◌, ℕ, ◌+◌, ◌<◌, ◌≤◌, ◌⊎◌, List, [], ◌∷◌, refl, sym, ap, ◌∙◌, arith, inl, inr, ⊎_elim, eq-eqb}
 use Rattle.std.proofs.lemmas.Bool.{cases_lt, lt-ltb, le-ltb, cases_eq, ne_eqb}
 use Rattle.vm_ranges.specs.Range.{Range, MAX, IsIn}
-use Rattle.vm_addresses.specs.Address.{with_range, without_range}
-use Rattle.vm_tree.specs.Building.{AreInOrder}
-use Rattle.vm_addresses.proofs.Blocks.PlainWords.{IsHeldAddress, IsHeld}
-use Rattle.vm_addresses.proofs.Blocks.BlockStates.{in_order_from}
+use Rattle.vm_ranges.specs.Address.{with_range, without_range, AreInOrder}
+use Rattle.vm_ranges.proofs.PlainWords.{IsHeldAddress, IsHeld}
+use Rattle.vm_leaf.proofs.Spaces.BlockStates.{in_order_from}
 use Rattle.vm_addresses.proofs.Blocks.HeldSets.{later_above, one_start}
 
 -- ---- A range added

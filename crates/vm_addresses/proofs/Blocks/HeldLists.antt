@@ -1,5 +1,5 @@
 -- A list of different held ranges is complete if and only if its length is the number of held ranges.
-use Rattle.std.proofs.Common.{◌≡◌, ◌≢◌, ℕ, ◌+◌, Bool, true, List, [], ◌∷◌, length, sym, subst, arith}
+use Rattle.std.proofs.Common.{◌≡◌, ◌≢◌, ℕ, ◌+◌, Bool, true, List, [], ◌∷◌, length, sym, subst, arith, AllPairs, All, ◌↔◌}
 use Rattle.std.proofs.lemmas.Cmp.{eq_by_cmp_equiv}
 use Rattle.std.proofs.lemmas.List.Elements.{Contains-get_or}
 use Rattle.std.proofs.lemmas.List.Kept.{AllPairs-cons}
@@ -11,10 +11,9 @@ use Rattle.std.specs.List.{Contains}
 use Rattle.std.specs.Ordering.{eq_by_cmp}
 use Rattle.vm_ranges.specs.Range.{Range}
 use Rattle.vm_ranges.specs.RangeOrder.{range_cmp, range_cmp-total}
-use Rattle.vm_tree.specs.Building.{AreInOrder}
-use Rattle.vm_addresses.specs.Laws.AddressLaws.{CountFindsAll}
+use Rattle.vm_ranges.specs.Address.{AreInOrder, AddressState, IsAddressState}
 use Rattle.vm_ranges.proofs.Listed.{Differ, AreAtMost, listed_is, each_listed}
-use Rattle.vm_addresses.proofs.Blocks.PlainWords.{held_contains}
+use Rattle.vm_ranges.proofs.PlainWords.{held_contains}
 use Rattle.vm_addresses.proofs.Blocks.HeldSets.{later_above}
 use Rattle.vm_ranges.proofs.RangeOrders.{range_cmp-exact}
 
@@ -41,7 +40,9 @@ held_differ lo hi (x ∷ xs) s =
     omega (arith, later_above lo hi x xs x s (held_contains xs x c), s.1))
     (held_differ (x.end + 1) hi xs s.4)
 
-pub ranges_listed : CountFindsAll
+pub ranges_listed : (state : AddressState) (list : List Range) → IsAddressState state →
+    AllPairs (λ r s. r ≢ s) list → All (Contains state.held) list →
+    (length list ≡ length state.held) ↔ ((r : Range) → Contains state.held r → Contains list r)
 ranges_listed state list i d a =
     let held = state.held in (
       λ e r. each_listed tells (Contains held) (length held) (no_more held) list r d a e,

@@ -1,8 +1,8 @@
 -- An ordered list of held ranges is determined by its set of ranges.
 use Rattle.std.proofs.Common.{◌≡◌, ℕ, ◌+◌, ◌<◌, ◌≤◌, ◌↔◌, List, [], ◌∷◌, refl, sym, ap, ◌∙◌, arith, inl, inr, ⊎_elim, subst}
 use Rattle.vm_ranges.specs.Range.{Range, MAX, IsIn}
-use Rattle.vm_tree.specs.Building.{AreInOrder}
-use Rattle.vm_addresses.proofs.Blocks.PlainWords.{IsHeld}
+use Rattle.vm_ranges.specs.Address.{AreInOrder}
+use Rattle.vm_ranges.proofs.PlainWords.{IsHeld}
 
 -- ---- The position of a held range
 pub held_lies : (lo hi : ℕ) (hs : List Range) (r : Range) → AreInOrder lo hs hi → IsHeld hs r →

@@ -3,16 +3,16 @@ use Rattle.std.proofs.Common.{◌≡◌, ℕ, ◌+◌, ◌<◌, ◌⊎◌, true,
 use Rattle.vm_ranges.specs.Range.{Range, IsIn, at_address}
 use Rattle.vm_ranges.specs.RangeOrder.{covers}
 use Rattle.vm_leaf.specs.declared.block.Block.{Block}
-use Rattle.vm_addresses.specs.Tree.Blocks.{held_of}
+use Rattle.vm_leaf.specs.SpaceBlocks.{held_of}
 use Rattle.vm_tree.specs.Lookups.{find_superset}
 use Rattle.vm_addresses.specs.Tree.BlockList.{IsOrderedFrom}
 use Rattle.vm_addresses.specs.Queries.{free_of, IsRangeAt, meeting}
 use Rattle.vm_tree.specs.Walks.{meets, meeting_blocks}
 use Rattle.vm_ranges.specs.declared.state.NodeState.{NodeState}
 use Rattle.vm_ranges.specs.declared.state.NodeState.TheVariants.{Free, Allocated}
-use Rattle.vm_addresses.proofs.Blocks.Gaps.{state_cases}
-use Rattle.vm_addresses.proofs.Blocks.OneList.{held_of-free, held_of-held}
-use Rattle.vm_addresses.proofs.Blocks.PlainWords.{IsHeldAddress, IsHeld, contains_held, all_miss}
+use Rattle.vm_leaf.proofs.Spaces.Gaps.{state_cases}
+use Rattle.vm_leaf.proofs.Spaces.OneList.{held_of-free, held_of-held}
+use Rattle.vm_ranges.proofs.PlainWords.{IsHeldAddress, IsHeld, contains_held, all_miss}
 use Rattle.vm_addresses.proofs.Blocks.BlockOrder.{some_same, covers_in, in_covers}
 use Rattle.vm_addresses.proofs.Walking.GapsInTrees.{free_of-free, free_of-held}
 

@@ -6,20 +6,20 @@ use Rattle.std.proofs.lemmas.Bool.{cases_lt}
 use Rattle.vm_ranges.specs.Cases.{IfElse, Unless}
 use Rattle.vm_ranges.specs.Range.{Range, MAX, IsIn, span}
 use Rattle.vm_leaf.specs.declared.block.Block.{Block}
-use Rattle.vm_addresses.specs.Address.{AddressState, AreClear, IsPlace}
+use Rattle.vm_ranges.specs.Address.{AddressState, AreClear, IsPlace}
 use Rattle.vm_ranges.specs.Request.{Request, request_for, IsStartAligned}
-use Rattle.vm_addresses.specs.Answer.{IsChosen, ByStart, ByExactPolicy, ByPlace, AllocatesAt, Grants}
+use Rattle.vm_ranges.specs.Answer.{IsChosen, ByStart, ByExactPolicy, ByPlace, AllocatesAt, Grants}
 use Rattle.vm_leaf.specs.Blocks.{Tiles}
-use Rattle.vm_addresses.specs.Tree.Blocks.{held_of, blocks_state, TilesSpace}
+use Rattle.vm_leaf.specs.SpaceBlocks.{held_of, blocks_state, TilesSpace}
 use Rattle.vm_ranges.specs.declared.error.Error.{Error}
 use Rattle.vm_ranges.specs.declared.error.Error.TheVariants.{Overflow, ResourceNotAvailable, InvalidStateTransition}
 use Rattle.vm_ranges.specs.declared.state.NodeState.{NodeState}
 use Rattle.vm_ranges.specs.declared.state.NodeState.TheVariants.{Free, Allocated}
 use Rattle.vm_ranges.specs.declared.constraint.AllocPolicy.{AllocPolicy}
 use Rattle.vm_ranges.specs.declared.constraint.AllocPolicy.TheVariants.{ExactMatch}
-use Rattle.vm_addresses.proofs.Blocks.PlainWords.{IsHeld, contains_held, held_contains, held_address, all_miss, none_holds}
-use Rattle.vm_addresses.proofs.Blocks.Gaps.{InFreeBlock, free_is_clear, in_free_block, state_cases, held_within, tiles_end}
-use Rattle.vm_addresses.proofs.Blocks.OneList.{held_of-free, held_of-held}
+use Rattle.vm_ranges.proofs.PlainWords.{IsHeld, contains_held, held_contains, held_address, all_miss, none_holds}
+use Rattle.vm_leaf.proofs.Spaces.Gaps.{InFreeBlock, free_is_clear, in_free_block, state_cases, held_within, tiles_end}
+use Rattle.vm_leaf.proofs.Spaces.OneList.{held_of-free, held_of-held}
 use Rattle.vm_ranges.proofs.RangeCalls.{same_range}
 use Rattle.vm_addresses.proofs.Placing.TakenRanges.{starts_after, in_block}
 

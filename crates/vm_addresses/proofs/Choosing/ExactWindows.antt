@@ -2,9 +2,9 @@
 use Rattle.std.proofs.Common.{◌≡◌, ℕ, ◌+◌, ◌<◌, ◌≤◌, Some, sym, arith, inl, inr, ⊎_elim, subst, Result, Err}
 use Rattle.vm_ranges.specs.Range.{Range, IsIn}
 use Rattle.vm_ranges.specs.Request.{Request}
-use Rattle.vm_addresses.specs.Windows.{within}
-use Rattle.vm_addresses.specs.Address.{AddressState, AreClear, IsPlace}
-use Rattle.vm_addresses.specs.Answer.{IsChosen, ByStart, ByExactPolicy, ByPlace, AllocatesAt, Grants}
+use Rattle.vm_ranges.specs.Windows.{within}
+use Rattle.vm_ranges.specs.Address.{AddressState, AreClear, IsPlace}
+use Rattle.vm_ranges.specs.Answer.{IsChosen, ByStart, ByExactPolicy, ByPlace, AllocatesAt, Grants}
 use Rattle.vm_ranges.specs.declared.error.Error.{Error}
 use Rattle.vm_ranges.specs.declared.constraint.AllocPolicy.TheVariants.{ExactMatch}
 use Rattle.vm_addresses.proofs.Results.Once.{clear_anywhere, place_anywhere}

@@ -4,14 +4,14 @@ use Rattle.std.specs.List.{All}
 use Rattle.std.proofs.lemmas.List.Elements.{All-head, All-tail}
 use Rattle.vm_ranges.specs.Range.{Range}
 use Rattle.vm_leaf.specs.declared.block.Block.{Block}
-use Rattle.vm_addresses.specs.Address.{AddressState, IsPlace}
+use Rattle.vm_ranges.specs.Address.{AddressState, IsPlace}
 use Rattle.vm_leaf.specs.Blocks.{Tiles}
-use Rattle.vm_addresses.specs.Tree.Blocks.{IsBlocksOf}
+use Rattle.vm_leaf.specs.SpaceBlocks.{IsBlocksOf}
 use Rattle.vm_leaf.specs.Fit.{IsFit, HasNoFit, IsLowestFit, IsHighestFit}
-use Rattle.vm_addresses.proofs.Blocks.PlainWords.{IsHeldAddress, all_miss, none_holds}
+use Rattle.vm_ranges.proofs.PlainWords.{IsHeldAddress, all_miss, none_holds}
 use Rattle.vm_ranges.specs.declared.state.NodeState.{NodeState}
 use Rattle.vm_ranges.specs.declared.state.NodeState.TheVariants.{Free, Allocated}
-use Rattle.vm_addresses.proofs.Blocks.Gaps.{InFreeBlock, in_free_block, free_is_clear}
+use Rattle.vm_leaf.proofs.Spaces.Gaps.{InFreeBlock, in_free_block, free_is_clear}
 
 pub place_in_block : (state : AddressState) (bs : List Block) (n a t : ℕ) → IsBlocksOf state bs → 0 < n → IsPlace n a state t →
     InFreeBlock bs t (t + n - 1)

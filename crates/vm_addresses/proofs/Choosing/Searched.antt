@@ -6,9 +6,9 @@ use Rattle.vm_ranges.specs.declared.error.Error.TheVariants.{Overflow, ResourceN
 use Rattle.vm_ranges.specs.declared.error.Error.{Error}
 use Rattle.vm_ranges.specs.declared.constraint.AllocPolicy.{AllocPolicy}
 use Rattle.vm_ranges.specs.declared.constraint.AllocPolicy.TheVariants.{FirstMatch, LastMatch, ExactMatch}
-use Rattle.vm_addresses.specs.Address.{AddressState, IsPlace, IsLowestPlace, IsHighestPlace}
-use Rattle.vm_addresses.specs.Answer.{IsChosen, ByExactPolicy, ByPlace, AllocatesAt, Grants}
-use Rattle.vm_addresses.specs.Windows.{within}
+use Rattle.vm_ranges.specs.Address.{AddressState, IsPlace, IsLowestPlace, IsHighestPlace}
+use Rattle.vm_ranges.specs.Answer.{IsChosen, ByExactPolicy, ByPlace, AllocatesAt, Grants}
+use Rattle.vm_ranges.specs.Windows.{within}
 use Rattle.vm_addresses.proofs.Results.Requests.{request_in, with_policy}
 
 -- ---- Requests with the policy FirstMatch or LastMatch

@@ -3,17 +3,17 @@ use Rattle.std.proofs.Common.{◌≡◌, ℕ, ◌+◌, ◌-◌, ◌%◌, ◌<◌
 use Rattle.std.specs.List.{All}
 use Rattle.std.proofs.lemmas.List.Elements.{All-head, All-tail}
 use Rattle.vm_ranges.specs.Range.{Range}
-use Rattle.vm_addresses.specs.Windows.{within}
+use Rattle.vm_ranges.specs.Windows.{within}
 use Rattle.vm_leaf.specs.Windows.{cut_to}
 use Rattle.vm_leaf.specs.declared.block.Block.{Block}
-use Rattle.vm_addresses.specs.Address.{AddressState, IsPlace, IsLowestPlace, IsHighestPlace}
+use Rattle.vm_ranges.specs.Address.{AddressState, IsPlace, IsLowestPlace, IsHighestPlace}
 use Rattle.vm_leaf.specs.Blocks.{Tiles}
-use Rattle.vm_addresses.specs.Tree.Blocks.{IsBlocksOf}
+use Rattle.vm_leaf.specs.SpaceBlocks.{IsBlocksOf}
 use Rattle.vm_leaf.specs.Fit.{IsFit, HasNoFit, IsLowestFit, IsHighestFit}
 use Rattle.vm_tree.specs.Allocation.{HasNoFitIn}
 use Rattle.vm_ranges.specs.declared.state.NodeState.{NodeState}
 use Rattle.vm_ranges.specs.declared.state.NodeState.TheVariants.{Free, Allocated}
-use Rattle.vm_addresses.proofs.Blocks.Gaps.{InFreeBlock}
+use Rattle.vm_leaf.proofs.Spaces.Gaps.{InFreeBlock}
 use Rattle.vm_addresses.proofs.Choosing.Places.{place_in_block, block_place, place_divides, fit_within, above}
 use Rattle.vm_addresses.proofs.Results.Once.{place_anywhere}
 

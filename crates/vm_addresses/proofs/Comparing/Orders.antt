@@ -6,13 +6,13 @@ use Rattle.std.specs.Ordering.{nat_cmp, ordering_reverse}
 use Rattle.std.specs.Cmp.{IsTotalOrder}
 use Rattle.std.proofs.lemmas.Map.Lookups.{CmpEqualImpliesEq, exact_unsigned}
 use Rattle.vm_ranges.specs.RangeOrder.{range_cmp}
-use Rattle.vm_addresses.specs.Address.{AddressState}
+use Rattle.vm_ranges.specs.Address.{AddressState}
 use Rattle.vm_leaf.specs.BlockOrder.{rank, block_cmp}
 use Rattle.vm_addresses.specs.Comparison.{blocks_cmp, IsOrder}
 use Rattle.vm_ranges.specs.declared.state.NodeState.{NodeState}
 use Rattle.vm_ranges.specs.declared.state.NodeState.TheVariants.{Free, Allocated}
 use Rattle.vm_ranges.proofs.RangeOrders.{both_equal, range_cmp-exact}
-use Rattle.vm_addresses.proofs.Blocks.OneList.{same_block}
+use Rattle.vm_leaf.proofs.Spaces.OneList.{same_block}
 
 -- A total order of the standard library is an order in the sense of `IsOrder`.
 pub order_of_total : (R : AddressState → AddressState → Ordering) → IsTotalOrder R → IsOrder R

@@ -4,14 +4,15 @@ use Rattle.std.specs.declared.cmp.Ordering.TheVariants.{Equal}
 use Rattle.std.proofs.lemmas.Cmp.{tied_itself}
 use Rattle.vm_ranges.specs.RangeOrder.{range_cmp}
 use Rattle.vm_leaf.specs.declared.block.Block.{Block}
-use Rattle.vm_addresses.specs.Tree.Blocks.{held_of, blocks_state, blocks_of}
-use Rattle.vm_addresses.specs.Address.{AddressState}
+use Rattle.vm_leaf.specs.SpaceBlocks.{held_of, blocks_state, blocks_of}
+use Rattle.vm_ranges.specs.Address.{AddressState}
 use Rattle.vm_tree.specs.Shape.{Shape, blocks}
 use Rattle.vm_addresses.specs.Allocator.{space_of, state_of, IsSpaceTree}
 use Rattle.vm_addresses.specs.Comparison.{blocks_cmp, layout_cmp, layout_cmp-total, state_cmp, state_cmp-total, AreEqual, IsOrder}
 use Rattle.vm_addresses.proofs.Comparing.Orders.{order_of_total, blocks_cmp-exact}
 use Rattle.vm_ranges.proofs.RangeOrders.{both_equal, range_cmp-exact}
-use Rattle.vm_addresses.proofs.Comparing.Tilings.{tree_blocks, held_of-blocks_of}
+use Rattle.vm_leaf.proofs.Spaces.Tilings.{held_of-blocks_of}
+use Rattle.vm_addresses.proofs.Trees.Spaces.{tree_blocks}
 
 -- Equal states are identical.
 pub one_state : (a b : AddressState) → AreEqual a b → a ≡ b

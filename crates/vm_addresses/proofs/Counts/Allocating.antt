@@ -1,7 +1,7 @@
 -- The number of nodes that `allocate` enters, for valid and for invalid requests.
 use Rattle.std.proofs.Common.{◌≡◌, ℕ, refl, arith, Result, Err}
 use Rattle.vm_ranges.specs.Range.{Range}
-use Rattle.vm_addresses.specs.Address.{AddressState}
+use Rattle.vm_ranges.specs.Address.{AddressState}
 use Rattle.vm_ranges.specs.Request.{Request, IsRequest, MakesConstraint}
 use Rattle.vm_tree.specs.Shape.{Shape, blocks}
 use Rattle.vm_addresses.specs.Counts.NodeCounts.{nodes_of_request}

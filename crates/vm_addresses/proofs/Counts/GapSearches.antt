@@ -14,15 +14,15 @@ use Rattle.vm_ranges.specs.declared.state.NodeState.TheVariants.{Allocated}
 use Rattle.vm_ranges.proofs.RangeCalls.{same_range}
 use Rattle.vm_leaf.specs.declared.block.Block.{Block}
 use Rattle.vm_leaf.specs.Blocks.{Tiles}
-use Rattle.vm_leaf.specs.Windows.{common, cut_to}
+use Rattle.vm_leaf.specs.Windows.{cut_to}
+use Rattle.vm_ranges.specs.Windows.{common, window_in}
 use Rattle.vm_tree.specs.GapSearch.{is_misaligned, on_part, parts_passing, gaps_without_place, IsSearchCount}
 use Rattle.vm_tree.specs.NodeCounts.{has_fit_in}
 use Rattle.vm_tree.specs.Shape.{Shape, blocks, height_of}
-use Rattle.vm_addresses.specs.Address.{AddressState}
+use Rattle.vm_ranges.specs.Address.{AddressState}
 use Rattle.vm_addresses.specs.Counts.GapSearch.{misaligned_gaps, passing, SearchesAmongGaps, SearchesGaps}
-use Rattle.vm_addresses.specs.Tree.Blocks.{blocks_state, TilesSpace}
-use Rattle.vm_addresses.specs.Windows.{window_in}
-use Rattle.vm_addresses.proofs.Comparing.Tilings.{tiling_blocks}
+use Rattle.vm_leaf.specs.SpaceBlocks.{blocks_state, TilesSpace}
+use Rattle.vm_leaf.proofs.Spaces.Tilings.{tiling_blocks}
 use Rattle.vm_addresses.proofs.Counts.Allocating.{invalid_count, invalid_entered}
 use Rattle.vm_addresses.proofs.Results.Requests.{request_in, allocates_refused}
 use Rattle.vm_addresses.proofs.Trees.Ends.{whole_window}

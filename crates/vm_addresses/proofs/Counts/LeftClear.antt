@@ -3,15 +3,14 @@ use Rattle.std.proofs.Common.{◌≡◌, ℕ, ◌+◌, ◌<◌, ◌≤◌, List,
 use Rattle.std.proofs.lemmas.Bool.{cases_lt}
 use Rattle.vm_ranges.specs.Range.{Range}
 use Rattle.vm_leaf.specs.declared.block.Block.{Block}
-use Rattle.vm_addresses.specs.Address.{SplitsGap}
-use Rattle.vm_leaf.specs.Blocks.{Tiles}
-use Rattle.vm_addresses.specs.Tree.Blocks.{TilesSpace, held_of, blocks_state}
-use Rattle.vm_leaf.specs.Blocks.{IsTakenFrom}
+use Rattle.vm_ranges.specs.Address.{SplitsGap}
+use Rattle.vm_leaf.specs.Blocks.{Tiles, IsTakenFrom}
+use Rattle.vm_leaf.specs.SpaceBlocks.{TilesSpace, held_of, blocks_state}
 use Rattle.vm_addresses.specs.Tree.BlockEdits.{NeedsSplit}
 use Rattle.vm_ranges.specs.declared.state.NodeState.{NodeState}
 use Rattle.vm_ranges.specs.declared.state.NodeState.TheVariants.{Free, Allocated}
-use Rattle.vm_addresses.proofs.Blocks.PlainWords.{IsHeldAddress, none_holds}
-use Rattle.vm_addresses.proofs.Blocks.Gaps.{InFreeBlock, in_free_block, free_is_clear}
+use Rattle.vm_ranges.proofs.PlainWords.{IsHeldAddress, none_holds}
+use Rattle.vm_leaf.proofs.Spaces.Gaps.{InFreeBlock, in_free_block, free_is_clear}
 use Rattle.vm_addresses.proofs.Choosing.Places.{above}
 use Rattle.vm_addresses.proofs.Placing.TakenRanges.{starts_after, in_block}
 

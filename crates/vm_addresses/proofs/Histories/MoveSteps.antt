@@ -3,12 +3,12 @@ use Rattle.std.proofs.Common.{◌≡◌, ◌⊎◌, refl, sym, ap, ◌∙◌, in
 use Rattle.std.specs.List.{Contains}
 use Rattle.vm_ranges.specs.Range.{Range}
 use Rattle.vm_ranges.specs.Request.{Request}
-use Rattle.vm_addresses.specs.Address.{AddressState, IsAddressState, releasing}
-use Rattle.vm_addresses.specs.Answer.{Allocates}
-use Rattle.vm_addresses.specs.Laws.AddressLaws.{AgreeUnlessMemory}
+use Rattle.vm_ranges.specs.Address.{AddressState, IsAddressState, releasing}
+use Rattle.vm_ranges.specs.Answer.{Allocates}
+use Rattle.vm_addresses.specs.Facts.{AgreeUnlessMemory}
 use Rattle.vm_ranges.specs.declared.error.Error.{Error}
 use Rattle.vm_ranges.proofs.TwoFacts.{unless_same}
-use Rattle.vm_addresses.proofs.Blocks.PlainWords.{IsHeld, held_contains}
+use Rattle.vm_ranges.proofs.PlainWords.{IsHeld, held_contains}
 use Rattle.vm_addresses.proofs.Blocks.HeldChanges.{held_with, held_without}
 use Rattle.vm_addresses.proofs.Results.AddressResults.{allocated_state, freed_state, releases_held}
 use Rattle.vm_addresses.proofs.Results.Once.{allocates_once}

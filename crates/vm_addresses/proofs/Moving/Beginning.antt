@@ -11,15 +11,15 @@ use Rattle.vm_ranges.specs.declared.constraint.AllocPolicy.{AllocPolicy}
 use Rattle.vm_ranges.specs.declared.constraint.AllocPolicy.TheVariants.{FirstMatch, LastMatch, ExactMatch}
 use Rattle.vm_leaf.specs.Block.{free_block}
 use Rattle.vm_leaf.specs.Fit.{HasNoFit, IsFit, IsLowestFit, IsHighestFit}
-use Rattle.vm_addresses.specs.Address.{AddressState, IsAddressState, IsClear, AreClear, IsPlace, IsLowestPlace, IsHighestPlace, SplitsGap, holding, releasing}
-use Rattle.vm_addresses.specs.Answer.{IsChosen, ByStart, ByExactPolicy, ByPlace, AllocatesAt, Grants, Allocates}
-use Rattle.vm_addresses.specs.Windows.{part_in, within, window_in}
+use Rattle.vm_ranges.specs.Address.{AddressState, IsAddressState, IsClear, AreClear, IsPlace, IsLowestPlace, IsHighestPlace, SplitsGap, holding, releasing}
+use Rattle.vm_ranges.specs.Answer.{IsChosen, ByStart, ByExactPolicy, ByPlace, AllocatesAt, Grants, Allocates}
+use Rattle.vm_ranges.specs.Windows.{part_in, within, window_in}
 use Rattle.vm_addresses.specs.Moves.{replacing, MovesRange, CanReplace, IsBegun, BeginsMove}
 use Rattle.vm_addresses.specs.Checks.Moving.{BeginsInside, FindsStart, FindsPlaceIn, IsForCloser, IsLeftGap, part_for}
 use Rattle.vm_addresses.specs.declared.address_allocator.moving.BegunMove.{BegunMove}
 use Rattle.vm_ranges.proofs.Decisions.{decided_in}
 use Rattle.vm_ranges.proofs.RangeCalls.{same_range}
-use Rattle.vm_addresses.proofs.Blocks.PlainWords.{held_contains, contains_held, none_holds, held_address}
+use Rattle.vm_ranges.proofs.PlainWords.{held_contains, contains_held, none_holds, held_address}
 use Rattle.vm_addresses.proofs.Blocks.HeldChanges.{held_without, others_held, not_held_without}
 use Rattle.vm_addresses.proofs.Moving.LeftGaps.{held_below}
 use Rattle.vm_addresses.proofs.Moving.LeftPlaces.{LieIn, place_parts, place_within, fit_parts, AreBeside, released_then, fit_or_place, fit_place, still_place, beside_allocates}

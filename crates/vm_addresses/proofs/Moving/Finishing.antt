@@ -5,12 +5,12 @@ use Rattle.vm_ranges.specs.Range.{Range, address_count, span}
 use Rattle.vm_ranges.specs.declared.constraint.AllocPolicy.TheVariants.{ExactMatch}
 use Rattle.vm_ranges.specs.declared.error.Error.{Error}
 use Rattle.vm_ranges.specs.declared.error.Error.TheVariants.{OutOfMemory}
-use Rattle.vm_addresses.specs.Address.{AddressState, AreClear, IsPlace, releasing}
-use Rattle.vm_addresses.specs.Answer.{IsChosen, AllocatesAt, Grants, Frees}
+use Rattle.vm_ranges.specs.Address.{AddressState, AreClear, IsPlace, releasing}
+use Rattle.vm_ranges.specs.Answer.{IsChosen, AllocatesAt, Grants, Frees}
 use Rattle.vm_addresses.specs.Moves.{request_to, replacing, CanReplace, IsBegun}
 use Rattle.vm_addresses.specs.declared.address_allocator.moving.BegunMove.{BegunMove}
 use Rattle.vm_ranges.proofs.RangeCalls.{same_range}
-use Rattle.vm_addresses.proofs.Blocks.PlainWords.{IsHeld, held_contains, contains_held, none_holds, held_address}
+use Rattle.vm_ranges.proofs.PlainWords.{IsHeld, held_contains, contains_held, none_holds, held_address}
 use Rattle.vm_addresses.proofs.Blocks.HeldSets.{held_lies}
 use Rattle.vm_addresses.proofs.Blocks.HeldChanges.{held_now, still_held_with, without_with, with_without, without_other}
 use Rattle.vm_addresses.proofs.Moving.Inside.{length_without}

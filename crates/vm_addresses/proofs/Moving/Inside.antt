@@ -9,12 +9,12 @@ use Rattle.vm_ranges.specs.declared.error.Error.{Error}
 use Rattle.vm_ranges.specs.declared.error.Error.TheVariants.{Overflow}
 use Rattle.vm_ranges.specs.declared.constraint.AllocPolicy.{AllocPolicy}
 use Rattle.vm_ranges.specs.declared.constraint.AllocPolicy.TheVariants.{FirstMatch, LastMatch, ExactMatch}
-use Rattle.vm_addresses.specs.Address.{AddressState, AreClear, IsPlace, IsClear, SplitsGap, releasing, without_range}
-use Rattle.vm_addresses.specs.Answer.{IsChosen, ByStart, ByExactPolicy, ByPlace, AllocatesAt, Grants}
+use Rattle.vm_ranges.specs.Address.{AddressState, AreClear, IsPlace, IsClear, SplitsGap, releasing, without_range}
+use Rattle.vm_ranges.specs.Answer.{IsChosen, ByStart, ByExactPolicy, ByPlace, AllocatesAt, Grants}
 use Rattle.vm_addresses.specs.Checks.Moving.{BeginsInside, IsLeftGap}
-use Rattle.vm_addresses.specs.Windows.{within}
+use Rattle.vm_ranges.specs.Windows.{within}
 use Rattle.vm_addresses.specs.declared.address_allocator.moving.BegunMove.{BegunMove}
-use Rattle.vm_addresses.proofs.Blocks.PlainWords.{IsHeld, held_contains}
+use Rattle.vm_ranges.proofs.PlainWords.{IsHeld, held_contains}
 use Rattle.vm_addresses.proofs.Moving.LeftPlaces.{released_then}
 use Rattle.vm_addresses.proofs.Results.Filling.{TakesBelowMax, clear_not_held}
 use Rattle.vm_addresses.proofs.Results.Requests.{request_in}

@@ -5,10 +5,10 @@ use Rattle.std.proofs.lemmas.Bool.{cases_lt}
 use Rattle.vm_ranges.specs.Range.{Range, MAX, IsRange, IsIn}
 use Rattle.vm_ranges.proofs.Decisions.{decided_in}
 use Rattle.vm_addresses.specs.Queries.{gaps_of, IsGapAt}
-use Rattle.vm_addresses.specs.Laws.QueryLaws.{IsGap}
+use Rattle.vm_addresses.specs.Facts.{IsGap}
 use Rattle.vm_addresses.specs.Checks.Moving.{IsLeftStart, IsLeftEnd, IsLeftGap}
-use Rattle.vm_addresses.specs.Address.{AddressState, IsAddressState, IsClear, releasing, without_range}
-use Rattle.vm_addresses.proofs.Blocks.PlainWords.{IsHeld, held_contains, all_miss, none_holds, held_address}
+use Rattle.vm_ranges.specs.Address.{AddressState, IsAddressState, IsClear, releasing, without_range}
+use Rattle.vm_ranges.proofs.PlainWords.{IsHeld, held_contains, all_miss, none_holds, held_address}
 use Rattle.vm_addresses.proofs.Blocks.HeldChanges.{held_without, others_held}
 use Rattle.vm_addresses.proofs.Blocks.HeldSets.{held_lies}
 use Rattle.vm_addresses.proofs.Results.HeldAndGaps.{each_in_one, gaps_are_longest}

@@ -6,10 +6,10 @@ use Rattle.vm_ranges.specs.Range.{Range, IsIn, span}
 use Rattle.vm_ranges.specs.declared.error.Error.{Error}
 use Rattle.vm_leaf.specs.Block.{free_block}
 use Rattle.vm_leaf.specs.Fit.{IsFit}
-use Rattle.vm_addresses.specs.Address.{AddressState, IsAddressState, IsClear, AreClear, IsPlace, SplitsGap, holding, releasing}
-use Rattle.vm_addresses.specs.Answer.{AllocatesAt}
+use Rattle.vm_ranges.specs.Address.{AddressState, IsAddressState, IsClear, AreClear, IsPlace, SplitsGap, holding, releasing}
+use Rattle.vm_ranges.specs.Answer.{AllocatesAt}
 use Rattle.vm_addresses.specs.Checks.Moving.{IsLeftGap}
-use Rattle.vm_addresses.specs.Windows.{part_in, within}
+use Rattle.vm_ranges.specs.Windows.{part_in, within}
 use Rattle.vm_addresses.proofs.Moving.LeftGaps.{still_clear, clear_or_freed, held_below}
 
 -- ---- Windows

@@ -7,7 +7,7 @@ use Rattle.vm_ranges.specs.declared.constraint.AllocPolicy.TheVariants.{FirstMat
 use Rattle.vm_leaf.specs.declared.block.Block.{Block}
 use Rattle.vm_leaf.specs.Block.{free_block}
 use Rattle.vm_leaf.specs.Fit.{HasNoFit, IsFit, IsLowestFit, IsHighestFit}
-use Rattle.vm_addresses.specs.Windows.{part_in}
+use Rattle.vm_ranges.specs.Windows.{part_in}
 use Rattle.vm_addresses.specs.Checks.Moving.{FindsStart, FindsPlaceIn, part_for}
 use Rattle.vm_addresses.proofs.Moving.LeftPlaces.{fit_parts}
 

@@ -10,13 +10,13 @@ use Rattle.vm_leaf.specs.Blocks.{parts}
 use Rattle.vm_tree.specs.Allocation.{range_at}
 use Rattle.vm_tree.specs.Shape.{Shape, blocks, height_of}
 use Rattle.vm_tree.specs.declared.search.Taken.{Taken}
-use Rattle.vm_addresses.specs.Address.{AddressState, IsAddressState, holding}
-use Rattle.vm_addresses.specs.Answer.{SPLIT_LIMIT_MIN_HELD, Grants}
+use Rattle.vm_ranges.specs.Address.{AddressState, IsAddressState, holding}
+use Rattle.vm_ranges.specs.Answer.{SPLIT_LIMIT_MIN_HELD, Grants}
 use Rattle.vm_addresses.specs.Tree.Allocation.{taken_range, Takes, IsAllocation}
 use Rattle.vm_addresses.specs.Tree.CountedTrees.{IsCountedTree}
-use Rattle.vm_addresses.specs.Tree.Blocks.{TilesSpace, IsBlocksOf, held_of, blocks_state}
+use Rattle.vm_leaf.specs.SpaceBlocks.{TilesSpace, IsBlocksOf, held_of, blocks_state}
 use Rattle.vm_addresses.specs.Allocator.{space_of, state_of, IsSpaceTree}
-use Rattle.vm_addresses.proofs.Blocks.OneList.{few_blocks}
+use Rattle.vm_leaf.proofs.Spaces.OneList.{few_blocks}
 use Rattle.vm_addresses.proofs.Placing.Places.{taken_from}
 use Rattle.vm_addresses.proofs.Placing.TakenRanges.{as_blocks, blocks_split}
 use Rattle.vm_addresses.proofs.Trees.CountedTrees.{TakesOne, length_with, taken_counted, taken_fits, gaps_left, gaps_fit}

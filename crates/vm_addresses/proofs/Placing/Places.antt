@@ -13,11 +13,11 @@ use Rattle.vm_leaf.specs.declared.block.Block.{Block}
 use Rattle.vm_leaf.specs.Block.{free_block}
 use Rattle.vm_leaf.specs.Blocks.{IsTakenFrom}
 use Rattle.vm_leaf.specs.Fit.{IsFit, IsLowestFit, IsHighestFit}
-use Rattle.vm_leaf.specs.Windows.{common, cut_to}
-use Rattle.vm_addresses.specs.Address.{AddressState, SplitsGap, holding}
-use Rattle.vm_addresses.specs.Answer.{SPLIT_LIMIT_MIN_HELD, IsChosen, AllocatesAt, Grants}
-use Rattle.vm_addresses.specs.Windows.{within, window_in}
-use Rattle.vm_addresses.specs.Tree.Blocks.{held_of, blocks_state, TilesSpace}
+use Rattle.vm_leaf.specs.Windows.{cut_to}
+use Rattle.vm_ranges.specs.Windows.{common, within, window_in}
+use Rattle.vm_ranges.specs.Address.{AddressState, SplitsGap, holding}
+use Rattle.vm_ranges.specs.Answer.{SPLIT_LIMIT_MIN_HELD, IsChosen, AllocatesAt, Grants}
+use Rattle.vm_leaf.specs.SpaceBlocks.{held_of, blocks_state, TilesSpace}
 use Rattle.vm_addresses.specs.Tree.BlockEdits.{NeedsSplit}
 use Rattle.vm_tree.specs.Allocation.{ListPlace, IsPlaceIn, IsClosestPlace, range_at, window_of, HasNoPlace, SettlesAt, IsTakenAt, IsSplitAt, AllocatesFit}
 use Rattle.vm_tree.specs.declared.end.End.{End}

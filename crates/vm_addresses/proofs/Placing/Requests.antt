@@ -50,7 +50,7 @@ use Rattle.vm_ranges.specs.declared.state.NodeState.TheVariants.{Free, Allocated
 use Rattle.vm_ranges.specs.declared.state.NodeState.{NodeState}
 use Rattle.vm_leaf.specs.declared.block.Block.{Block}
 use Rattle.vm_leaf.specs.Block.{free_block}
-use Rattle.vm_leaf.specs.Windows.{common}
+use Rattle.vm_ranges.specs.Windows.{common, part_in, window_in}
 use Rattle.vm_tree.specs.Allocation.{ListPlace, window_of, IsPlaceIn, SettlesAt, SettlesIn, IsSearch, AllocatesExact, AllocatesFit, IsClosestPlace}
 use Rattle.vm_tree.specs.GapSearch.{IsSearchCount, gaps_without_place}
 use Rattle.vm_tree.specs.Heights.{held_blocks, one_if_held}
@@ -66,15 +66,14 @@ use Rattle.vm_tree.specs.declared.search.Refusal.{Refusal}
 use Rattle.vm_tree.specs.declared.search.Refusal.TheVariants.{NoPlace, Held, PastMax, OutOfMemory as NoMemory, CannotSplit}
 use Rattle.vm_tree.proofs.Searched.{none_missed, none_closest}
 use Rattle.vm_tree.proofs.Heights.{high_tree_held}
-use Rattle.vm_addresses.specs.Address.{AddressState}
-use Rattle.vm_addresses.specs.Answer.{SPLIT_LIMIT_MIN_HELD, ByStart, ByExactPolicy, Grants}
+use Rattle.vm_ranges.specs.Address.{AddressState}
+use Rattle.vm_ranges.specs.Answer.{SPLIT_LIMIT_MIN_HELD, ByStart, ByExactPolicy, Grants}
 use Rattle.vm_addresses.specs.Counts.GapSearch.{SearchesGaps}
 use Rattle.vm_addresses.specs.Counts.NodeCounts.{nodes_of_request, nodes_by_policy, is_looked_for, has_address}
 use Rattle.vm_addresses.specs.Counts.Steps.{max_entered, IsGrantCount}
 use Rattle.vm_addresses.specs.Tree.Allocation.{with_error, taken_range, IsSearchOf, Takes, IsAllocation}
-use Rattle.vm_addresses.specs.Tree.Blocks.{range_if_held, held_of, blocks_state, TilesSpace}
-use Rattle.vm_addresses.specs.Windows.{part_in, window_in}
-use Rattle.vm_addresses.proofs.Blocks.OneList.{same_block}
+use Rattle.vm_leaf.specs.SpaceBlocks.{range_if_held, held_of, blocks_state, TilesSpace}
+use Rattle.vm_leaf.proofs.Spaces.OneList.{same_block}
 use Rattle.vm_addresses.proofs.Counts.GapSearches.{searches, exact_searches}
 use Rattle.vm_addresses.proofs.Placing.Places.{policy_of, fit_grants, place_chosen}
 use Rattle.vm_addresses.proofs.Placing.ExactPlaces.{exact_grants}

@@ -3,16 +3,15 @@ use Rattle.std.proofs.Common.{◌≡◌, ℕ, ◌+◌, ◌-◌, ◌<◌, ◌≤�
 use Rattle.std.proofs.lemmas.Bool.{cases_lt, lt-ltb, le-ltb}
 use Rattle.vm_ranges.specs.Range.{Range, MAX}
 use Rattle.vm_leaf.specs.declared.block.Block.{Block}
-use Rattle.vm_addresses.specs.Address.{AddressState, with_range, holding, SplitsGap}
-use Rattle.vm_leaf.specs.Blocks.{NotBothFree, Tiles}
-use Rattle.vm_addresses.specs.Tree.Blocks.{held_of, IsBlocksOf, blocks_state, TilesSpace, AreBelowMax}
-use Rattle.vm_leaf.specs.Blocks.{after_part, parts, IsTakenFrom}
+use Rattle.vm_ranges.specs.Address.{AddressState, with_range, holding, SplitsGap}
+use Rattle.vm_leaf.specs.Blocks.{NotBothFree, Tiles, after_part, parts, IsTakenFrom}
+use Rattle.vm_leaf.specs.SpaceBlocks.{held_of, IsBlocksOf, blocks_state, TilesSpace, AreBelowMax}
 use Rattle.vm_addresses.specs.Tree.BlockEdits.{NeedsSplit}
 use Rattle.vm_ranges.specs.declared.state.NodeState.{NodeState}
 use Rattle.vm_ranges.specs.declared.state.NodeState.TheVariants.{Free, Allocated}
-use Rattle.vm_addresses.proofs.Blocks.Gaps.{state_cases, InFreeBlock, free_is_clear}
-use Rattle.vm_addresses.proofs.Blocks.OneList.{held_of-free, held_of-held}
-use Rattle.vm_addresses.proofs.Blocks.PlainWords.{all_miss}
+use Rattle.vm_leaf.proofs.Spaces.Gaps.{state_cases, InFreeBlock, free_is_clear}
+use Rattle.vm_leaf.proofs.Spaces.OneList.{held_of-free, held_of-held}
+use Rattle.vm_ranges.proofs.PlainWords.{all_miss}
 
 before_held : (p : NodeState) (lo hi : ℕ) (bs : List Block) → Tiles p lo bs hi → Tiles Allocated lo bs hi
 before_held p lo hi [] t = t

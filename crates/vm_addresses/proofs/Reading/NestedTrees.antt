@@ -4,11 +4,11 @@ use Rattle.serde_json.specs.Data.{Data, depth}
 use Rattle.vm_ranges.proofs.FieldSteps.{field_map}
 use Rattle.vm_ranges.proofs.Nesting.{object_within, number_within, range_nests, state_nests}
 use Rattle.vm_ranges.specs.Range.{Range}
-use Rattle.vm_addresses.specs.Address.{AddressState}
-use Rattle.vm_addresses.specs.Values.NodeTree.{NodeTree, Tip, Fork, node_height}
-use Rattle.vm_tree.specs.Shape.{MAX_HEIGHT}
+use Rattle.vm_ranges.specs.Address.{AddressState}
+use Rattle.vm_saved_trees.specs.NodeTree.{NodeTree, Tip, Fork, node_height}
+use Rattle.vm_leaf.specs.TreeHeights.{MAX_HEIGHT}
 use Rattle.vm_addresses.specs.Values.AllocatorValues.{EncodesTree, EncodesAddresses}
-use Rattle.vm_addresses.specs.Values.TreeValues.{EncodesShape, EncodesSpaceTree}
+use Rattle.vm_saved_trees.specs.TreeValues.{EncodesShape, EncodesSpaceTree}
 
 -- The value of a tree nests at most one deeper than its nodes.
 pub shape_nests : (s : NodeTree) (d : Data) → EncodesShape d s → depth d ≤ node_height s + 1

@@ -11,14 +11,14 @@ use Rattle.vm_ranges.specs.RangeValues.{EncodesRange, decoded_range}
 use Rattle.vm_ranges.specs.Saving.{Reads}
 use Rattle.vm_ranges.specs.declared.saved.ValueError.{ValueError}
 use Rattle.vm_ranges.specs.declared.saved.ValueError.TheVariants.{NotAState, OutOfMemory}
-use Rattle.vm_addresses.specs.Address.{AddressState, IsAddressState}
-use Rattle.vm_addresses.specs.Answer.{SPLIT_LIMIT_MIN_HELD}
+use Rattle.vm_ranges.specs.Address.{AddressState, IsAddressState}
+use Rattle.vm_ranges.specs.Answer.{SPLIT_LIMIT_MIN_HELD}
 use Rattle.vm_addresses.specs.Checks.AllocatorChecks.{decoded_root, decoded_parts}
 use Rattle.vm_addresses.specs.Values.AllocatorValues.{EncodesAllocator, EncodesAddresses, EncodesRepaired, EncodesTree}
-use Rattle.vm_addresses.specs.Values.KeyValues.{EncodesKeys}
-use Rattle.vm_addresses.specs.Values.TreeValues.{EncodesSpaceTree}
-use Rattle.vm_addresses.proofs.Reading.ReadSpaces.{one_encoded, tree_state_valid}
-use Rattle.vm_addresses.proofs.Reading.RepairedTrees.{one_keys, keys_state, strict_keys}
+use Rattle.vm_saved_trees.specs.KeyValues.{EncodesKeys}
+use Rattle.vm_saved_trees.specs.TreeValues.{EncodesSpaceTree}
+use Rattle.vm_saved_trees.proofs.Reading.ReadSpaces.{one_encoded, tree_state_valid}
+use Rattle.vm_saved_trees.proofs.Reading.RepairedTrees.{one_keys, keys_state, strict_keys}
 use Rattle.vm_ranges.proofs.ReadRanges as ranges
 
 module _ (Root : Data → Range → AddressState → Type 0)

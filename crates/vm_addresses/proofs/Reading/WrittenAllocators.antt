@@ -6,8 +6,8 @@ use Rattle.vm_ranges.proofs.FieldSteps.{field_is}
 use Rattle.vm_ranges.proofs.Steps.{and_then_some}
 use Rattle.vm_ranges.specs.Fields.{field_count}
 use Rattle.vm_ranges.specs.RangeValues.{EncodesRange}
-use Rattle.vm_addresses.specs.Values.TreeValues.{EncodesSpaceTree}
-use Rattle.vm_addresses.specs.Address.{AddressState}
+use Rattle.vm_saved_trees.specs.TreeValues.{EncodesSpaceTree}
+use Rattle.vm_ranges.specs.Address.{AddressState}
 use Rattle.vm_addresses.specs.Values.AllocatorValues.{EncodesTree, EncodesAddresses}
 use Rattle.vm_addresses.specs.Checks.AllocatorChecks.{AllocatorParts}
 

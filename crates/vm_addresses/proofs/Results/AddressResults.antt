@@ -2,12 +2,12 @@
 use Rattle.std.proofs.Common.{◌≡◌, ◌≢◌, ℕ, ◌+◌, ◌-◌, ◌<◌, ◌≤◌, ◌⊎◌, ◌↔◌, List, [], refl, sym, ap, ◌∙◌, arith, inl, inr, ⊎_elim, subst, Result, Ok}
 use Rattle.std.specs.List.{Contains}
 use Rattle.vm_ranges.specs.Range.{Range, MAX, Overlaps, span}
-use Rattle.vm_addresses.specs.Address.{AddressState, IsPlace, IsAddressState, holding, releasing, with_range, without_range}
+use Rattle.vm_ranges.specs.Address.{AddressState, IsPlace, IsAddressState, holding, releasing, with_range, without_range}
 use Rattle.vm_ranges.specs.Request.{Request, IsRequest}
-use Rattle.vm_addresses.specs.Answer.{Allocates, Grants, Frees, Makes}
-use Rattle.vm_addresses.specs.Laws.AddressLaws.{HeldAreDisjoint, StateIsPreserved, AddsRange, AllocatingAddsRange, FreeingRemovesRange, FreeingUndoes}
+use Rattle.vm_ranges.specs.Answer.{Allocates, Grants, Frees, Makes}
+use Rattle.vm_addresses.specs.Facts.{StateIsPreserved, AddsRange, AreDisjoint, RemovesRange}
 use Rattle.vm_ranges.specs.declared.error.Error.{Error}
-use Rattle.vm_addresses.proofs.Blocks.PlainWords.{IsHeld, contains_held, held_contains, none_holds}
+use Rattle.vm_ranges.proofs.PlainWords.{IsHeld, contains_held, held_contains, none_holds}
 use Rattle.vm_addresses.proofs.Results.Outcomes.{IsRefused, IsTaken, given_or_refused, allocates_outcome, grants_outcome}
 use Rattle.vm_ranges.proofs.RangeCalls.{covers}
 use Rattle.vm_addresses.proofs.Results.Once.{chosen_place}
@@ -135,7 +135,7 @@ pub state_is_preserved : StateIsPreserved
 state_is_preserved = record { made = made_state; allocated = allocated_state; freed = freed_state }
 
 -- ---- The held ranges of a state
-pub lie_apart : HeldAreDisjoint
+pub lie_apart : (state : AddressState) → IsAddressState state → AreDisjoint state
 unfolding Overlaps
 lie_apart state i =
     let lo = state.space.start in
@@ -170,7 +170,8 @@ adds_given old new request r g =
           (with_members held_one old.held q);
     })
 
-pub adds_range : AllocatingAddsRange
+pub adds_range : (old new : AddressState) (request : Request) (r : Range) →
+    IsAddressState old → Allocates old request (Ok r) new → AddsRange old new r
 adds_range old new request r i h = adds_given old new request r (gets request old new r h)
 
 -- Freeing a held range succeeds.
@@ -201,7 +202,8 @@ without_members old r q i h =
           (others_held lo hi r q old.held i.in_order h (held_contains old.held q c.0) (λ e. c.1 (sym e))),
     )
 
-pub removes_range : FreeingRemovesRange
+pub removes_range : (old new : AddressState) (r : Range) →
+    IsAddressState old → Frees old r (Ok tt) new → RemovesRange old new r
 removes_range old new r i h =
     let f = freed_held old new r h in
     record {
@@ -228,7 +230,8 @@ undoes_given old mid new request r answer i g f =
     let alike : releasing r mid ≡ releasing held_one (holding held_one old) = rw (same, g.left) refl in
     (freed.0, freed.1 ∙ (alike ∙ back))
 
-pub freeing_undoes : FreeingUndoes
+pub freeing_undoes : (old mid new : AddressState) (request : Request) (r : Range) (answer : Result (Unit {0}) Error) →
+    IsAddressState old → Allocates old request (Ok r) mid → Frees mid r answer new → (answer ≡ Ok tt) × (new ≡ old)
 freeing_undoes old mid new request r answer i s f = undoes_given old mid new request r answer i (gets request old mid r s) f
 
 pub ruleset changes = (adds_range, removes_range, freeing_undoes)

@@ -7,21 +7,20 @@ use Rattle.vm_ranges.specs.Range.{Range, MAX, IsIn, Overlaps, Covers, span, addr
 use Rattle.vm_ranges.specs.Request.{Request, ByPolicy, IsStartAligned, IsRequest}
 use Rattle.vm_ranges.specs.declared.constraint.AllocPolicy.{AllocPolicy}
 use Rattle.vm_ranges.specs.declared.constraint.AllocPolicy.TheVariants.{FirstMatch, LastMatch, ExactMatch}
-use Rattle.vm_addresses.specs.Address.{AddressState, IsAddressState, IsPlace, AreClear, releasing, without_range}
-use Rattle.vm_tree.specs.Building.{AreInOrder}
+use Rattle.vm_ranges.specs.Address.{AddressState, IsAddressState, IsPlace, AreClear, releasing, without_range, AreInOrder}
 use Rattle.vm_tree.specs.Walks.{meets}
-use Rattle.vm_addresses.proofs.Blocks.PlainWords.{held_contains}
+use Rattle.vm_ranges.proofs.PlainWords.{held_contains}
 use Rattle.vm_addresses.proofs.Results.AddressResults.{freed_state, releases_held}
 use Rattle.vm_addresses.specs.Queries.{meeting}
-use Rattle.vm_addresses.specs.Windows.{within}
+use Rattle.vm_ranges.specs.Windows.{within}
 use Rattle.vm_addresses.proofs.Choosing.WindowPlaces.{LiesIn, lies_in, place_lying}
 use Rattle.vm_addresses.proofs.Results.Meeting.{clear_if_none_meets}
 use Rattle.vm_addresses.proofs.Results.Once.{place_anywhere}
 use Rattle.vm_addresses.specs.Conflicts.{with_first, IsConflictOf, IsWindowConflict, IsConflict, IsMoveConflict, ConflictDecides, LooksAt}
-use Rattle.vm_addresses.specs.Laws.WindowLaws.{WholeWindowKeepsConflicts}
 use Rattle.vm_addresses.specs.declared.address_allocator.conflicts.Conflict.{Conflict}
 use Rattle.vm_addresses.specs.declared.address_allocator.conflicts.Conflict.TheVariants.{OutsideSpace}
 use Rattle.vm_addresses.proofs.Results.WindowResults.{covered}
+use Rattle.vm_addresses.specs.Facts.{anywhere, in_window}
 
 -- ---- The first of the ranges
 none_listed : (rs : List Range) → with_first rs ≡ None → rs ≡ []
@@ -35,9 +34,9 @@ module _ (state : AddressState) (n a s : ℕ) (some : 0 < n) (aligned : s % a �
   unfolding IsPlace Covers
   in_space window p x i = ((place_anywhere window n a s state p).1 x i.0 (omega (arith, i.1))).0
 
-  in_window : (w : Range) → LiesIn w n s → Covers w (span s n)
+  is_covered : (w : Range) → LiesIn w n s → Covers w (span s n)
   unfolding Covers
-  in_window w l x i = (omega (arith, l.0, i.0), omega (arith, l.1, i.1))
+  is_covered w l x i = (omega (arith, l.0, i.0), omega (arith, l.1, i.1))
 
   long : address_count (span s n) ≡ n
   long = omega (arith, some)
@@ -64,7 +63,7 @@ module _ (state : AddressState) (n a s : ℕ) (some : 0 < n) (aligned : s % a �
   window_decides None h = free_decides h
   window_decides (Some w) (inl o) = (λ e. absurd (cc (e, o.1)), λ p. absurd (o.0 (in_space (Some w) p)))
   window_decides (Some w) (inr (inside, inl o)) =
-      (λ e. absurd (cc (e, o.1)), λ p. absurd (o.0 (in_window w (lies_in w n a state some s p))))
+      (λ e. absurd (cc (e, o.1)), λ p. absurd (o.0 (is_covered w (lies_in w n a state some s p))))
   window_decides (Some w) (inr (inside, inr i)) =
       let free = free_decides (inr (inside, i.1)) in (
         λ e. place_lying w n a state some s (covered w n s some i.0) (free.0 e),
@@ -112,7 +111,9 @@ same_conflict state size (ExactMatch s) w answer valid low high = (
   λ h. ⊎_elim (λ o. inl o) (λ i. inr (i.0, inr (λ x k. let j = i.0 x k in (omega (arith, low, j.0), omega (arith, high, j.1)), i.1))) h,
 )
 
-pub whole_conflict : WholeWindowKeepsConflicts
+pub whole_conflict : (state : AddressState) (request : Request) (window : Range) (answer : Option Conflict) → IsAddressState state →
+    window.start ≤ state.space.start → state.space.end ≤ window.end →
+    IsConflict state (in_window window request) answer ↔ IsConflict state (anywhere request) answer
 unfolding IsConflict
 whole_conflict state request w answer valid low high = same_conflict state request.size request.policy w answer valid low high
 

@@ -31,23 +31,23 @@ use Rattle.std.proofs.lemmas.Bool.{cases_eq}
 use Rattle.std.specs.List.{Contains}
 use Rattle.vm_ranges.specs.Cases.{IfElse, Unless}
 use Rattle.vm_ranges.specs.Range.{Range, MAX, IsRange, span}
-use Rattle.vm_addresses.specs.Address.{AddressState, AreClear, IsPlace, IsLowestPlace, IsHighestPlace, holding, releasing}
+use Rattle.vm_ranges.specs.Address.{AddressState, AreClear, IsPlace, IsLowestPlace, IsHighestPlace, holding, releasing}
 use Rattle.vm_ranges.specs.Request.{Request, IsStartAligned, ByConstraint}
-use Rattle.vm_addresses.specs.Windows.{within}
+use Rattle.vm_ranges.specs.Windows.{within}
 use Rattle.vm_addresses.proofs.Results.Requests.{request_in}
 use Rattle.vm_addresses.proofs.Results.AddressResults.{outcome}
 use Rattle.vm_addresses.proofs.Results.Outcomes.{IsGiven}
-use Rattle.vm_addresses.specs.Answer.{SPLIT_LIMIT_MIN_HELD, IsChosen, ByStart, ByExactPolicy, ByPlace, AllocatesAt, Grants, Allocates, Frees, Makes}
+use Rattle.vm_ranges.specs.Answer.{SPLIT_LIMIT_MIN_HELD, IsChosen, ByStart, ByExactPolicy, ByPlace, AllocatesAt, Grants, Allocates, Frees, Makes}
 use Rattle.vm_ranges.specs.Histories.{EveryCallIsAnswered, EveryListHasHistory}
 use Rattle.vm_ranges.proofs.Histories.{every_list}
 use Rattle.vm_addresses.specs.Held.{first_fault, BySpace, MakesHeld, MakesWithHeld}
-use Rattle.vm_tree.specs.Building.{TOO_MANY_BLOCKS}
-use Rattle.vm_addresses.specs.Tree.Blocks.{blocks_of}
+use Rattle.vm_leaf.specs.TreeHeights.{TOO_MANY_BLOCKS}
+use Rattle.vm_leaf.specs.SpaceBlocks.{blocks_of}
 use Rattle.vm_addresses.specs.Several.{RefusesOne, AllocatesAll}
 use Rattle.vm_addresses.specs.Moves.{MovesRange}
 use Rattle.vm_addresses.specs.Holes.{holes_after, last_range_end, wrong_index, MakesWithFree}
 use Rattle.vm_addresses.specs.Histories.AddressHistories.{Allocate, AllocateAll, Free, MoveTo, Clone, IsCallFrom}
-use Rattle.vm_addresses.specs.Laws.HistoryLaws.{EveryAddressCallIsAnswered}
+use Rattle.vm_addresses.specs.Facts.{EveryAddressCallIsAnswered}
 use Rattle.vm_ranges.specs.declared.error.Error.{Error}
 use Rattle.vm_ranges.specs.declared.error.Error.TheVariants.{
   OutOfMemory,

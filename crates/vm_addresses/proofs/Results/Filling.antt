@@ -3,16 +3,16 @@ use Rattle.std.proofs.Common.{◌≡◌, ℕ, ◌+◌, ◌-◌, ◌<◌, ◌≤�
 use Rattle.std.specs.List.{Contains}
 use Rattle.vm_ranges.specs.Cases.{IfElse, Unless}
 use Rattle.vm_ranges.specs.Range.{Range, MAX, IsIn, span}
-use Rattle.vm_addresses.specs.Address.{AddressState, AreClear, IsPlace}
+use Rattle.vm_ranges.specs.Address.{AddressState, AreClear, IsPlace}
 use Rattle.vm_ranges.specs.Request.{Request, IsRequest, ByConstraint, MakesConstraint}
-use Rattle.vm_addresses.specs.Windows.{within}
+use Rattle.vm_ranges.specs.Windows.{within}
 use Rattle.vm_addresses.proofs.Results.Requests.{request_in}
-use Rattle.vm_addresses.specs.Answer.{IsChosen, ByStart, ByExactPolicy, ByPlace, AllocatesAt, Grants, Allocates, FillsGap, Frees}
+use Rattle.vm_ranges.specs.Answer.{IsChosen, ByStart, ByExactPolicy, ByPlace, AllocatesAt, Grants, Allocates, FillsGap, Frees}
 use Rattle.vm_ranges.specs.declared.error.Error.{Error}
 use Rattle.vm_ranges.specs.declared.error.Error.TheVariants.{Overflow}
 use Rattle.vm_ranges.specs.declared.constraint.AllocPolicy.{AllocPolicy}
 use Rattle.vm_ranges.specs.declared.constraint.AllocPolicy.TheVariants.{FirstMatch, LastMatch, ExactMatch}
-use Rattle.vm_addresses.proofs.Blocks.PlainWords.{held_contains, none_holds, held_address}
+use Rattle.vm_ranges.proofs.PlainWords.{held_contains, none_holds, held_address}
 use Rattle.vm_addresses.proofs.Results.Once.{chosen_once, place_in_window}
 
 -- The branch of a case distinction that remains if its condition is false, and if it is true.

@@ -1,30 +1,17 @@
 -- The held ranges and the gaps of a valid state.
-use Rattle.std.proofs.Common.{◌≡◌, ◌↔◌, ℕ, ◌+◌, ◌-◌, ◌<◌, ◌≤◌, ◌⊎◌, max, List, [], ◌∷◌, Option, Some, None, refl, sym, ap, arith, inl, inr, ⊎_elim, subst}
+use Rattle.std.proofs.Common.{◌≡◌, ◌↔◌, ℕ, ◌+◌, ◌-◌, ◌<◌, ◌≤◌, ◌⊎◌, max, List, [], ◌∷◌, Option, Some, None, refl, sym, ap, arith, inl, inr, ⊎_elim, subst, Contains}
 use Rattle.std.proofs.lemmas.Bool.{cases_lt}
 use Rattle.vm_ranges.specs.Range.{Range, IsIn, IsInNone, address_count}
 use Rattle.vm_ranges.proofs.RangeCalls.{same_range}
-use Rattle.vm_addresses.specs.Address.{AddressState, IsAddressState, IsClear, IsPlace}
+use Rattle.vm_ranges.specs.Address.{AddressState, IsAddressState, IsClear, IsPlace}
 use Rattle.vm_leaf.specs.Blocks.{Tiles}
-use Rattle.vm_addresses.specs.Tree.Blocks.{held_of, blocks_of}
-use Rattle.vm_addresses.specs.Windows.{within}
-use Rattle.vm_addresses.specs.Queries.{gaps_of, longest_of, longest_part, longest_in, count_of, IsRangeAt}
-use Rattle.vm_addresses.specs.Laws.QueryLaws.{
-  IsInOne,
-  EachAddressIsInOne,
-  AgreesWithLists,
-  HeldAtAgrees,
-  AgreesWithGaps,
-  GapAtAgrees,
-  IsGap,
-  GapsAreLongest,
-  HeldAndGapsAreBlocks,
-  LongestIsZero,
-  LongestFits,
-  CountsAddUp,
-}
+use Rattle.vm_leaf.specs.SpaceBlocks.{held_of, blocks_of}
+use Rattle.vm_ranges.specs.Windows.{within}
+use Rattle.vm_addresses.specs.Queries.{gaps_of, longest_of, longest_part, longest_in, count_of, IsRangeAt, IsHeldAt, IsGapAt}
+use Rattle.vm_addresses.specs.Facts.{IsInOne, AgreesWithLists, AgreesWithGaps, IsGap, IsInBlocks}
 use Rattle.vm_ranges.specs.declared.state.NodeState.TheVariants.{Allocated}
-use Rattle.vm_addresses.proofs.Blocks.PlainWords.{IsHeldAddress, IsHeld, contains_held, held_contains, all_miss, none_holds, held_address}
-use Rattle.vm_addresses.proofs.Blocks.Gaps.{in_free_block, free_is_clear}
+use Rattle.vm_ranges.proofs.PlainWords.{IsHeldAddress, IsHeld, contains_held, held_contains, all_miss, none_holds, held_address}
+use Rattle.vm_leaf.proofs.Spaces.Gaps.{in_free_block, free_is_clear}
 use Rattle.vm_addresses.proofs.Blocks.HeldSets.{held_lies, one_held}
 use Rattle.vm_addresses.proofs.Blocks.GapLists.{
   FreeOver,
@@ -41,7 +28,7 @@ use Rattle.vm_addresses.proofs.Blocks.GapLists.{
   one_has_longest_part,
   all_counted,
 }
-use Rattle.vm_addresses.proofs.Comparing.Tilings.{held_of-blocks_of}
+use Rattle.vm_leaf.proofs.Spaces.Tilings.{held_of-blocks_of}
 use Rattle.vm_tree.proofs.BlockCursors.{between_tiles}
 
 -- A held address is in a held range.
@@ -245,33 +232,39 @@ module _ (state : AddressState) (valid : IsAddressState state) where
       let held : count_of (held_of (blocks_of state)) ≡ count_of state.held = ap count_of (held_of-blocks_of state) in
       omega (arith, all, held, valid.space.0)
 
-pub each_in_one : EachAddressIsInOne
+pub each_in_one : (state : AddressState) (x : ℕ) → IsAddressState state → IsIn state.space x →
+    (IsInOne state.held x × IsInNone (gaps_of state) x) ⊎ (IsInOne (gaps_of state) x × IsInNone state.held x)
 each_in_one state x valid i = in_one state valid x i
 
-pub held_at_agrees : HeldAtAgrees
+pub held_at_agrees : (state : AddressState) (x : ℕ) (answer : Option Range) →
+    IsAddressState state → IsHeldAt state x answer → AgreesWithLists state x answer
 held_at_agrees state x answer valid h = agrees state valid x answer h
 
-pub gap_at_agrees : GapAtAgrees
+pub gap_at_agrees : (state : AddressState) (x : ℕ) (answer : Option Range) →
+    IsAddressState state → IsGapAt state x answer → AgreesWithGaps state x answer
 gap_at_agrees state x answer valid h = gap_agrees state valid x answer h
 
 pub ruleset one_range = (each_in_one, held_at_agrees, gap_at_agrees)
 
-pub gaps_are_longest : GapsAreLongest
+pub gaps_are_longest : (state : AddressState) (g : Range) → IsAddressState state → Contains (gaps_of state) g ↔ IsGap state g
 gaps_are_longest state g valid = (
   λ c. is_gap state valid g (held_contains (gaps_of state) g c),
   λ is. contains_held (gaps_of state) g (gap_listed state valid g is),
 )
 
-pub held_and_gaps_are_blocks : HeldAndGapsAreBlocks
+pub held_and_gaps_are_blocks : (state : AddressState) → IsAddressState state → IsInBlocks state
 held_and_gaps_are_blocks state valid = record { tiles = tiles state valid; held = held_of-blocks_of state; gaps = refl }
 
-pub longest_is_zero : LongestIsZero
+pub longest_is_zero : (state : AddressState) → IsAddressState state →
+    (longest_of (gaps_of state) ≡ 0) ↔ ((x : ℕ) → ¬ IsClear state x)
 longest_is_zero state valid = (none_if_zero state valid, zero_if_none state valid)
 
-pub longest_fits : LongestFits
+pub longest_fits : (state : AddressState) (window : Option Range) (n : ℕ) → IsAddressState state → 0 < n →
+    ((s : ℕ) × IsPlace n 1 (within window state) s) ↔ (n ≤ longest_in window (gaps_of state))
 longest_fits state window n valid p = fits_in state valid window n p
 
-pub counts_add_up : CountsAddUp
+pub counts_add_up : (state : AddressState) → IsAddressState state →
+    count_of (gaps_of state) + count_of state.held ≡ address_count state.space
 counts_add_up state valid = add_up state valid
 
 pub ruleset counts = (counts_add_up)

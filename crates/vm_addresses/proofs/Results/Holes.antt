@@ -42,24 +42,24 @@ use Rattle.std.proofs.lemmas.List.Elements.{All-nil, All-cons, All-head, All-tai
 use Rattle.std.specs.List.{All, Contains}
 use Rattle.vm_ranges.specs.Cases.{Unless}
 use Rattle.vm_ranges.specs.Range.{Range, MAX, IsRange, IsIn, span}
-use Rattle.vm_addresses.specs.Address.{AddressState, IsClear}
+use Rattle.vm_ranges.specs.Address.{AddressState, IsClear}
 use Rattle.vm_addresses.specs.Allocator.{state_of, made_state}
 use Rattle.vm_ranges.specs.ListErrors.{by_error}
 use Rattle.vm_ranges.specs.declared.error.ListError.{ListError}
 use Rattle.vm_tree.specs.Shape.{Shape}
 use Rattle.vm_addresses.specs.Held.{first_fault, fault_index, BySpace, MakesHeld}
 use Rattle.vm_leaf.specs.Block.{held_block}
-use Rattle.vm_tree.specs.Building.{gap_before, blocks_between}
+use Rattle.vm_leaf.specs.SpaceBlocks.{blocks_between, gap_before}
 use Rattle.vm_ranges.specs.declared.error.Error.{Error}
 use Rattle.vm_ranges.specs.declared.error.Error.TheVariants.{Overflow, OutOfMemory, ResourceNotAvailable, InvalidRange}
 use Rattle.vm_addresses.proofs.Trees.HeldTrees.{held_made, makes_high, makes_memory}
-use Rattle.vm_addresses.proofs.Comparing.Tilings.{gap}
-use Rattle.vm_addresses.proofs.Blocks.PlainWords.{IsHeldAddress, contains_held, held_contains, held_address, all_miss, none_holds}
+use Rattle.vm_leaf.proofs.Spaces.Tilings.{gap}
+use Rattle.vm_ranges.proofs.PlainWords.{IsHeldAddress, contains_held, held_contains, held_address, all_miss, none_holds}
 use Rattle.vm_ranges.specs.Making.{MakesRange}
 use Rattle.vm_addresses.specs.Checks.FreeChecks.{AreRanges, ChecksFree}
 use Rattle.vm_addresses.specs.Holes.{holes_after, last_range_end, wrong_index, MakesWithFree}
-use Rattle.vm_addresses.specs.Laws.SeveralLaws.{FreeIsHeld}
 use Rattle.vm_addresses.proofs.Callers.{range_of}
+use Rattle.vm_addresses.specs.Histories.AddressHistories.{IsMadeWithHeld}
 
 -- ---- One range after another
 -- A range that starts too low.
@@ -400,7 +400,8 @@ made_cases : (o : Option ℕ) (range : Type 0) (bad : Error) (held : Result Addr
 made_cases None range bad held answer made h e = ⊎_elim (λ u. absurd (cc (u.1, e))) (λ k. (refl, k.0, k.1)) h
 made_cases (Some i) range bad held answer made h e = absurd (cc (h, e))
 
-pub free_is_held : FreeIsHeld
+pub free_is_held : (free : List Range) (made : AddressState) → All (λ r. IsRange r.start r.end) free →
+    MakesWithFree free (Ok made) → IsMadeWithHeld made
 unfolding BySpace
 free_is_held [] made v m = absurd (cc m)
 free_is_held (r ∷ rs) made v m =

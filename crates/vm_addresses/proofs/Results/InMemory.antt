@@ -1,10 +1,10 @@
 -- A call has one result if memory suffices.
 use Rattle.std.proofs.Common.{◌≡◌, ◌≢◌, ℕ, sym, ◌∙◌, inl, inr, ⊎_elim, Result, Err}
 use Rattle.vm_ranges.specs.Range.{Range}
-use Rattle.vm_addresses.specs.Address.{AddressState}
+use Rattle.vm_ranges.specs.Address.{AddressState}
 use Rattle.vm_ranges.specs.Request.{Request}
-use Rattle.vm_addresses.specs.Answer.{Allocates, Makes}
-use Rattle.vm_addresses.specs.Laws.AddressLaws.{AgreeUnlessMemory}
+use Rattle.vm_ranges.specs.Answer.{Allocates, Makes}
+use Rattle.vm_addresses.specs.Facts.{AgreeUnlessMemory}
 use Rattle.vm_ranges.specs.declared.error.Error.{Error}
 use Rattle.vm_ranges.specs.declared.error.Error.TheVariants.{OutOfMemory}
 use Rattle.vm_ranges.proofs.TwoFacts.{if_same}

@@ -1,14 +1,14 @@
 -- The results of creating an allocator, and the state of a new one.
 use Rattle.std.proofs.Common.{List, Result, ⊎_elim, subst, ◌≡◌, ℕ, ◌+◌, ◌-◌, ◌<◌, ◌≤◌, [], ◌∷◌, refl, ap, ◌∙◌, arith, inl, inr, Option, None, Ok, Err}
 use Rattle.vm_ranges.specs.Range.{Range, MAX, span}
-use Rattle.vm_addresses.specs.Answer.{Makes}
-use Rattle.vm_addresses.specs.Address.{AddressState}
+use Rattle.vm_ranges.specs.Answer.{Makes}
+use Rattle.vm_ranges.specs.Address.{AddressState}
 use Rattle.vm_ranges.specs.declared.error.Error.{Error}
 use Rattle.vm_tree.specs.Shape.{Shape, blocks}
 use Rattle.vm_addresses.specs.Allocator.{space_of, state_of}
 use Rattle.vm_addresses.proofs.Trees.HeldTrees.{held_made}
 use Rattle.vm_addresses.specs.Held.{BySpace, MakesSpace, MakesHeld, MakesWithHeld, HasFaultIndex, fault_index}
-use Rattle.vm_addresses.specs.Tree.Blocks.{blocks_state, TilesSpace, IsTiling}
+use Rattle.vm_leaf.specs.SpaceBlocks.{blocks_state, TilesSpace, IsTiling}
 use Rattle.vm_ranges.specs.declared.error.Error.TheVariants.{Overflow, Underflow, OutOfMemory}
 use Rattle.vm_ranges.specs.declared.state.NodeState.TheVariants.{Free}
 

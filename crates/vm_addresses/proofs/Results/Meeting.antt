@@ -4,16 +4,16 @@ use Rattle.std.proofs.lemmas.Bool.{and_parts, leb-true, le-leb, false_from_ne_tr
 use Rattle.std.specs.List.{Contains}
 use Rattle.vm_ranges.specs.Range.{Range, IsIn, Overlaps, Covers}
 use Rattle.vm_ranges.proofs.RangeCalls.{meet}
-use Rattle.vm_addresses.specs.Address.{AddressState, IsAddressState}
+use Rattle.vm_ranges.specs.Address.{AddressState, IsAddressState}
 use Rattle.vm_tree.specs.Walks.{meets}
 use Rattle.vm_addresses.specs.Queries.{gaps_of, meeting}
-use Rattle.vm_addresses.specs.Tree.Blocks.{blocks_of}
-use Rattle.vm_addresses.specs.Laws.QueryLaws.{ListsOverlaps, MeetingIsOverlap, IsClearIfNoneMeets, ClearIfNoneMeets}
+use Rattle.vm_leaf.specs.SpaceBlocks.{blocks_of}
+use Rattle.vm_addresses.specs.Facts.{ListsOverlaps, IsClearIfNoneMeets}
 use Rattle.vm_ranges.specs.declared.state.NodeState.TheVariants.{Allocated}
 use Rattle.vm_addresses.proofs.Results.HeldAndGaps.{held_range, tiles, gap_clear, clear_gap}
 use Rattle.vm_addresses.proofs.Blocks.GapLists.{free_lies}
 use Rattle.vm_addresses.proofs.Blocks.HeldSets.{held_lies}
-use Rattle.vm_addresses.proofs.Blocks.PlainWords.{IsHeldAddress, IsHeld, contains_held, held_contains, all_miss, none_holds, held_address}
+use Rattle.vm_ranges.proofs.PlainWords.{IsHeldAddress, IsHeld, contains_held, held_contains, all_miss, none_holds, held_address}
 
 -- ---- The test of two ranges
 meets_if : (w r : Range) (x : ℕ) → IsIn w x → IsIn r x → meets w r ≡ true
@@ -100,8 +100,9 @@ module _ (state : AddressState) (w : Range) (valid : IsAddressState state) (p : 
     );
   }
 
-pub meeting_is_overlap : MeetingIsOverlap
+pub meeting_is_overlap : (state : AddressState) (window : Range) → IsAddressState state → window.start ≤ window.end → ListsOverlaps state window
 meeting_is_overlap state w valid p = overlaps state w valid p
 
-pub clear_if_none_meets : ClearIfNoneMeets
+pub clear_if_none_meets : (state : AddressState) (window : Range) →
+    IsAddressState state → window.start ≤ window.end → Covers state.space window → IsClearIfNoneMeets state window
 clear_if_none_meets state w valid p in_space = clear_or_held state w valid p in_space

@@ -4,8 +4,8 @@ use Rattle.std.specs.List.{Contains}
 use Rattle.vm_ranges.specs.Range.{Range, Covers, address_count}
 use Rattle.vm_ranges.specs.Alignment.{IsAlignment}
 use Rattle.vm_ranges.specs.Request.{Request, request_for, IsStartAligned, ByConstraint, MakesConstraint}
-use Rattle.vm_addresses.specs.Address.{AddressState, releasing}
-use Rattle.vm_addresses.specs.Answer.{IsChosen}
+use Rattle.vm_ranges.specs.Address.{AddressState, releasing}
+use Rattle.vm_ranges.specs.Answer.{IsChosen}
 use Rattle.vm_ranges.specs.declared.error.Error.{Error}
 use Rattle.vm_ranges.specs.declared.error.Error.TheVariants.{ResourceNotAvailable}
 use Rattle.vm_ranges.specs.declared.constraint.AllocPolicy.TheVariants.{ExactMatch}

@@ -2,12 +2,12 @@
 use Rattle.std.proofs.Common.{◌≡◌, ℕ, ◌+◌, ◌-◌, sym, ◌∙◌, arith, inl, inr, ⊎_elim, subst, Option, Some, None, Result, Ok, Err}
 use Rattle.vm_ranges.specs.Cases.{IfElse, Unless}
 use Rattle.vm_ranges.specs.Range.{Range, MAX, span}
-use Rattle.vm_addresses.specs.Address.{AddressState, IsClear, IsPlace, IsLowestPlace, IsHighestPlace, holding}
+use Rattle.vm_ranges.specs.Address.{AddressState, IsClear, IsPlace, IsLowestPlace, IsHighestPlace, holding}
 use Rattle.vm_ranges.specs.Request.{Request, ByConstraint}
-use Rattle.vm_addresses.specs.Windows.{within}
+use Rattle.vm_ranges.specs.Windows.{within}
 use Rattle.vm_addresses.proofs.Results.Requests.{request_in}
-use Rattle.vm_addresses.specs.Answer.{IsChosen, ByStart, ByExactPolicy, ByPlace, AllocatesAt, Grants, Allocates, Frees}
-use Rattle.vm_addresses.specs.Laws.AddressLaws.{AgreeUnlessMemory, AllocatesOnce, FreesOnce}
+use Rattle.vm_ranges.specs.Answer.{IsChosen, ByStart, ByExactPolicy, ByPlace, AllocatesAt, Grants, Allocates, Frees}
+use Rattle.vm_addresses.specs.Facts.{AgreeUnlessMemory}
 use Rattle.vm_ranges.specs.declared.error.Error.{Error}
 use Rattle.vm_ranges.specs.declared.error.Error.TheVariants.{Overflow, ResourceNotAvailable}
 use Rattle.vm_ranges.specs.declared.constraint.AllocPolicy.{AllocPolicy}
@@ -121,10 +121,13 @@ module _ (old new later : AddressState) (answer other : Result Range Error) wher
       (both_unless _ _ _ _ _ Agree (refused_once _)
       (both_unless _ _ _ _ _ Agree (refused_once _) (grants_by _ request.policy request.window request.size request.align))) p q
 
-pub allocates_once : AllocatesOnce
+pub allocates_once : (old new later : AddressState) (request : Request) (answer other : Result Range Error) →
+    Allocates old request answer new → Allocates old request other later →
+    AgreeUnlessMemory answer new other later
 allocates_once old new later request answer other = request_once old new later answer other request
 
-pub frees_once : FreesOnce
+pub frees_once : (old new later : AddressState) (r : Range) (answer other : Result (Unit {0}) Error) →
+    Frees old r answer new → Frees old r other later → (answer ≡ other) × (new ≡ later)
 unfolding Frees
 frees_once old new later r answer other p q =
     both _ _ _ _ _ ((answer ≡ other) × (new ≡ later)) (λ u v. (u.0 ∙ sym v.0, u.1 ∙ sym v.1)) (λ u v. (u.0 ∙ sym v.0, u.1 ∙ sym v.1)) p q

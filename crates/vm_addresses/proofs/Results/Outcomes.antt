@@ -1,11 +1,11 @@
 -- A request fails, or the range at the chosen place is allocated.
 use Rattle.std.proofs.Common.{◌≡◌, ℕ, ◌+◌, ◌-◌, arith, inl, inr, ◌⊎◌, ⊎_elim, Option, Result, Ok, Err, length}
 use Rattle.vm_ranges.specs.Range.{Range, MAX, span}
-use Rattle.vm_addresses.specs.Address.{AddressState, holding}
+use Rattle.vm_ranges.specs.Address.{AddressState, holding}
 use Rattle.vm_ranges.specs.Request.{Request, IsRequest, ByConstraint}
-use Rattle.vm_addresses.specs.Windows.{within}
+use Rattle.vm_ranges.specs.Windows.{within}
 use Rattle.vm_addresses.proofs.Results.Requests.{request_in}
-use Rattle.vm_addresses.specs.Answer.{IsChosen, ByStart, ByExactPolicy, ByPlace, AllocatesAt, Grants, AllocatesOf, Allocates}
+use Rattle.vm_ranges.specs.Answer.{IsChosen, ByStart, ByExactPolicy, ByPlace, AllocatesAt, Grants, AllocatesOf, Allocates}
 use Rattle.vm_ranges.specs.declared.error.Error.{Error}
 use Rattle.vm_ranges.specs.declared.error.Error.TheVariants.{Overflow, ResourceNotAvailable, OutOfMemory}
 use Rattle.vm_ranges.specs.declared.constraint.AllocPolicy.{AllocPolicy}

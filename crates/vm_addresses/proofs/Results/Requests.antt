@@ -5,8 +5,8 @@ use Rattle.vm_ranges.specs.Request.{Request, IsRequest, ByConstraint, MakesConst
 use Rattle.vm_ranges.specs.declared.error.Error.{Error}
 use Rattle.vm_ranges.specs.declared.constraint.AllocPolicy.{AllocPolicy}
 use Rattle.vm_ranges.proofs.Requests.{constraint_made, constraint_map}
-use Rattle.vm_addresses.specs.Address.{AddressState}
-use Rattle.vm_addresses.specs.Answer.{Grants, AllocatesOf, Allocates}
+use Rattle.vm_ranges.specs.Address.{AddressState}
+use Rattle.vm_ranges.specs.Answer.{Grants, AllocatesOf, Allocates}
 
 -- The request with its policy and its window written out.
 abbrev pub request_in : Option Range → ℕ → ℕ → AllocPolicy → Request

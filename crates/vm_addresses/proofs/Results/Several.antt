@@ -30,8 +30,8 @@ use Rattle.std.proofs.Math.Seq.{drop-cons, drop-length}
 use Rattle.std.proofs.lemmas.List.{take-append-drop, append-nil, length-take-le}
 use Rattle.vm_ranges.specs.Range.{Range}
 use Rattle.vm_ranges.specs.Request.{Request}
-use Rattle.vm_addresses.specs.Address.{AddressState, IsAddressState}
-use Rattle.vm_addresses.specs.Answer.{Allocates, Frees}
+use Rattle.vm_ranges.specs.Address.{AddressState, IsAddressState}
+use Rattle.vm_ranges.specs.Answer.{Allocates, Frees}
 use Rattle.vm_addresses.specs.Several.{FailsAtIndex, AllocatesEach, RefusesOne}
 use Rattle.vm_ranges.specs.declared.error.Error.{Error}
 use Rattle.vm_addresses.proofs.Results.AddressResults.{allocated_state, freeing_undoes}

@@ -1,13 +1,12 @@
 -- Requests with a window beside the same requests without a window.
-use Rattle.std.proofs.Common.{◌≡◌, ℕ, ◌+◌, ◌-◌, ◌<◌, ◌≤◌, ◌⊎◌, Option, Some, None, refl, sym, ap, arith, inr, ⊎_elim, subst, Result, Ok, Err, length}
+use Rattle.std.proofs.Common.{◌≡◌, ℕ, ◌+◌, ◌-◌, ◌<◌, ◌≤◌, ◌⊎◌, Option, Some, None, refl, sym, ap, arith, inr, ⊎_elim, subst, Result, Ok, Err, length, ◌↔◌}
 use Rattle.vm_ranges.specs.Cases.{IfElse}
 use Rattle.vm_ranges.specs.Range.{Range, MAX, Covers, span}
 use Rattle.vm_ranges.specs.Request.{Request, ByConstraint}
-use Rattle.vm_leaf.specs.Windows.{common}
-use Rattle.vm_addresses.specs.Windows.{within}
-use Rattle.vm_addresses.specs.Address.{AddressState, IsPlace, IsLowestPlace, IsHighestPlace}
-use Rattle.vm_addresses.specs.Answer.{IsChosen, ByStart, ByExactPolicy, ByPlace, AllocatesAt, Grants, Allocates}
-use Rattle.vm_addresses.specs.Laws.WindowLaws.{in_window, anywhere, LiesInWindow, WholeWindowIsNone, KeptInWindow}
+use Rattle.vm_ranges.specs.Windows.{common, within}
+use Rattle.vm_ranges.specs.Address.{AddressState, IsPlace, IsLowestPlace, IsHighestPlace}
+use Rattle.vm_ranges.specs.Answer.{IsChosen, ByStart, ByExactPolicy, ByPlace, AllocatesAt, Grants, Allocates}
+use Rattle.vm_addresses.specs.Facts.{in_window, anywhere}
 use Rattle.vm_ranges.specs.declared.error.Error.{Error}
 use Rattle.vm_ranges.specs.declared.error.Error.TheVariants.{Overflow, ResourceNotAvailable}
 use Rattle.vm_ranges.specs.declared.constraint.AllocPolicy.{AllocPolicy}
@@ -21,7 +20,8 @@ use Rattle.vm_addresses.proofs.Choosing.WindowPlaces.{LiesIn, place_lying}
 use Rattle.vm_addresses.proofs.Choosing.ExactWindows.{narrow_grants}
 use Rattle.vm_addresses.proofs.Callers.{given, lies_in_window}
 
-pub inside : LiesInWindow
+pub inside : (old new : AddressState) (request : Request) (window r : Range) →
+    Allocates old (in_window window request) (Ok r) new → Covers window r
 inside old new request w r h = lies_in_window old new (in_window w request) w r refl h
 
 -- ---- A window that contains the space
@@ -56,7 +56,9 @@ other_window old new answer request u v f h =
     let refused : Error → Type 0 = λ e. (answer ≡ Err e) × (new ≡ old) in
     constraint_map (request_in u request.size request.align request.policy) refused refused _ _ (λ e k. k) f h
 
-pub whole_window : WholeWindowIsNone
+pub whole_window : (old new : AddressState) (request : Request) (window : Range) (answer : Result Range Error) →
+    window.start ≤ old.space.start → old.space.end ≤ window.end →
+    Allocates old (in_window window request) answer new ↔ Allocates old (anywhere request) answer new
 whole_window old new request w answer p q =
     let e = same_space w old p q in (
       other_window old new answer request (Some w) None
@@ -104,7 +106,8 @@ module _ (w : Range) (n a : ℕ) (old new : AddressState) (r : Range) (z : 0 < n
       narrow_grants w n a t old z (omega (arith, i.0, chosen.0), omega (arith, i.1, chosen.0)) (λ clear. omega (arith, i.1, chosen.0)) _ new
       (Ok r) h
 
-pub kept_in_window : KeptInWindow
+pub kept_in_window : (old new : AddressState) (request : Request) (window r : Range) →
+    Allocates old (anywhere request) (Ok r) new → Covers window r → Allocates old (in_window window request) (Ok r) new
 kept_in_window old new request w r h c =
     let g = given old new (anywhere request) r h in
     other_window old new (Ok r) request None (Some w)

@@ -5,14 +5,14 @@ use Rattle.std.specs.List.{Contains}
 use Rattle.vm_ranges.specs.Range.{Range, MAX, address_count}
 use Rattle.vm_ranges.specs.declared.state.NodeState.TheVariants.{Allocated}
 use Rattle.vm_tree.specs.Shape.{Shape, blocks}
-use Rattle.vm_addresses.specs.Address.{AddressState, with_range, holding, releasing}
+use Rattle.vm_ranges.specs.Address.{AddressState, with_range, holding, releasing}
 use Rattle.vm_addresses.specs.Tree.CountedTrees.{IsCountedTree}
 use Rattle.vm_addresses.specs.Queries.{free_of, count_of}
-use Rattle.vm_addresses.specs.Tree.Blocks.{TilesSpace, IsBlocksOf, AreBelowMax, held_of}
+use Rattle.vm_leaf.specs.SpaceBlocks.{TilesSpace, IsBlocksOf, AreBelowMax, held_of}
 use Rattle.vm_addresses.specs.Allocator.{space_of, state_of, IsSpaceTree}
 use Rattle.vm_addresses.proofs.Blocks.GapLists.{all_counted}
 use Rattle.vm_addresses.proofs.Blocks.HeldChanges.{with_without}
-use Rattle.vm_addresses.proofs.Blocks.PlainWords.{held_contains}
+use Rattle.vm_ranges.proofs.PlainWords.{held_contains}
 use Rattle.vm_addresses.proofs.Placing.TakenRanges.{below_with}
 use Rattle.vm_addresses.proofs.Trees.Spaces.{space_tiled, space_tree, state_of_tree}
 use Rattle.vm_addresses.proofs.Walking.HeldInTrees.{all_blocks}

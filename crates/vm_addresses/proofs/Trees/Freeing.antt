@@ -32,7 +32,7 @@ use Rattle.std.proofs.Common.{
   false,
 }
 use Rattle.std.specs.List.{Contains}
-use Rattle.vm_ranges.specs.Range.{Range}
+use Rattle.vm_ranges.specs.Range.{Range, IsIn}
 use Rattle.vm_ranges.specs.declared.error.Error.TheVariants.{ResourceNotAvailable}
 use Rattle.vm_ranges.specs.declared.state.NodeState.{NodeState}
 use Rattle.vm_ranges.specs.declared.state.NodeState.TheVariants.{Free, Allocated}
@@ -42,18 +42,15 @@ use Rattle.vm_leaf.specs.Blocks.{NotBothFree, nth, freed_between, with_free}
 use Rattle.vm_tree.specs.Frees.{FreesBlock, Holds}
 use Rattle.vm_tree.proofs.Frees.{freed_gap_before, freed_held_before}
 use Rattle.vm_tree.proofs.Lists.{cut_last}
-use Rattle.vm_addresses.specs.Address.{releasing}
-use Rattle.vm_addresses.specs.Answer.{Frees}
-use Rattle.vm_addresses.specs.Tree.Blocks.{held_of, blocks_state, TilesSpace, IsBlocksOf}
-use Rattle.vm_addresses.proofs.Blocks.PlainWords.{IsHeld, contains_held, held_contains}
-use Rattle.vm_addresses.proofs.Blocks.Gaps.{state_cases}
+use Rattle.vm_ranges.specs.Address.{releasing, without_range}
+use Rattle.vm_ranges.specs.Answer.{Frees}
+use Rattle.vm_leaf.specs.SpaceBlocks.{held_of, blocks_state, TilesSpace, IsBlocksOf, AreBelowMax}
+use Rattle.vm_ranges.proofs.PlainWords.{IsHeld, contains_held, held_contains}
+use Rattle.vm_leaf.proofs.Spaces.Gaps.{state_cases}
 use Rattle.vm_addresses.proofs.Trees.Joining.{EndsHeld, blocks_freed, blocks_freed_before, held_or_later, is_held, IsHeldBlock}
 use Rattle.vm_addresses.proofs.Placing.TakenRanges.{as_blocks}
-use Rattle.vm_addresses.specs.Address.{without_range}
-use Rattle.vm_addresses.specs.Tree.Blocks.{AreBelowMax}
 use Rattle.vm_addresses.specs.Allocator.{space_of, state_of, IsSpaceTree}
 use Rattle.vm_tree.specs.Shape.{Shape, blocks}
-use Rattle.vm_ranges.specs.Range.{IsIn}
 use Rattle.vm_addresses.proofs.Blocks.HeldSets.{held_lies}
 use Rattle.vm_addresses.proofs.Trees.CountedTrees.{FreesOne}
 use Rattle.vm_addresses.proofs.Trees.Spaces.{state_of_tree}

@@ -3,14 +3,14 @@ use Rattle.std.proofs.Common.{◌≡◌, ℕ, ◌+◌, ◌<◌, ◌≤◌, List,
 use Rattle.std.proofs.lemmas.Bool.{ne_eqb}
 use Rattle.vm_ranges.specs.Range.{Range}
 use Rattle.vm_leaf.specs.declared.block.Block.{Block}
-use Rattle.vm_addresses.specs.Address.{AddressState, without_range, releasing}
+use Rattle.vm_ranges.specs.Address.{AddressState, without_range, releasing}
 use Rattle.vm_leaf.specs.Blocks.{NotBothFree, Tiles, join_if, with_free}
-use Rattle.vm_addresses.specs.Tree.Blocks.{range_if_held, held_of, IsBlocksOf}
-use Rattle.vm_addresses.proofs.Blocks.PlainWords.{IsHeld}
+use Rattle.vm_leaf.specs.SpaceBlocks.{range_if_held, held_of, IsBlocksOf}
+use Rattle.vm_ranges.proofs.PlainWords.{IsHeld}
 use Rattle.vm_ranges.specs.declared.state.NodeState.{NodeState}
 use Rattle.vm_ranges.specs.declared.state.NodeState.TheVariants.{Free, Allocated}
-use Rattle.vm_addresses.proofs.Blocks.Gaps.{state_cases}
-use Rattle.vm_addresses.proofs.Blocks.OneList.{held_of-free, held_of-held}
+use Rattle.vm_leaf.proofs.Spaces.Gaps.{state_cases}
+use Rattle.vm_leaf.proofs.Spaces.OneList.{held_of-free, held_of-held}
 use Rattle.vm_addresses.proofs.Placing.TakenRanges.{starts_after}
 
 -- The last block is not free. If the list is empty, the state before it is not Free.

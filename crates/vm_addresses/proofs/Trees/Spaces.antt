@@ -7,11 +7,12 @@ use Rattle.vm_leaf.specs.declared.block.Block.{Block}
 use Rattle.vm_leaf.specs.Block.{free_block}
 use Rattle.vm_leaf.specs.Blocks.{Tiles}
 use Rattle.vm_tree.specs.Shape.{Shape, Tip, blocks}
-use Rattle.vm_addresses.specs.Address.{IsAddressState}
+use Rattle.vm_ranges.specs.Address.{IsAddressState}
 use Rattle.vm_addresses.specs.Tree.CountedTrees.{IsCountedTree}
-use Rattle.vm_addresses.specs.Tree.Blocks.{TilesSpace, IsTiling}
+use Rattle.vm_leaf.specs.SpaceBlocks.{TilesSpace, IsTiling, blocks_of}
 use Rattle.vm_addresses.specs.Allocator.{last_end, space_of, state_of, IsSpaceTree}
-use Rattle.vm_addresses.proofs.Blocks.BlockStates.{is_state}
+use Rattle.vm_leaf.proofs.Spaces.BlockStates.{is_state}
+use Rattle.vm_leaf.proofs.Spaces.Tilings.{tiling_blocks}
 
 -- A tiling ends where the space ends.
 last_tile : (p : NodeState) (lo hi : ℕ) (bs : List Block) → Tiles p (lo + 1) bs hi → last_end lo bs ≡ hi
@@ -52,3 +53,7 @@ pub state_made : (s : Shape) (k : Range) → IsRange k.start k.end → s ≡ Tip
 state_made s k r e = subst (λ (v : Shape). IsAddressState (state_of v)) (sym e) (record { space = r; in_order = tt })
 
 pub ruleset making = (free_counted, state_made)
+
+-- The blocks of a tree's state are the blocks of the tree.
+pub tree_blocks : (s : Shape) → IsSpaceTree s → blocks_of (state_of s) ≡ blocks s
+tree_blocks s h = tiling_blocks (space_of (blocks s)) (blocks s) h.tiling.tiles

@@ -4,8 +4,8 @@ use Rattle.std.proofs.lemmas.List.{map-append, length-map}
 use Rattle.vm_tree.specs.Shape.{Shape, blocks}
 use Rattle.vm_addresses.specs.Allocator.{state_of, IsSpaceTree}
 use Rattle.vm_addresses.specs.Queries.{block_parts}
-use Rattle.vm_addresses.specs.Tree.Blocks.{blocks_of}
-use Rattle.vm_addresses.proofs.Comparing.Tilings.{tree_blocks}
+use Rattle.vm_leaf.specs.SpaceBlocks.{blocks_of}
+use Rattle.vm_addresses.proofs.Trees.Spaces.{tree_blocks}
 use Rattle.vm_addresses.proofs.Walking.HeldInTrees.{all_blocks}
 
 pub parts_in_tree : (s : Shape) → IsSpaceTree s → map block_parts (blocks s) ≡ map block_parts (blocks_of (state_of s))

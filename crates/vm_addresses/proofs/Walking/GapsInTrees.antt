@@ -6,13 +6,13 @@ use Rattle.vm_ranges.specs.Range.{Range, MAX, address_count}
 use Rattle.vm_leaf.specs.declared.block.Block.{Block}
 use Rattle.vm_leaf.specs.Block.{free_length}
 use Rattle.vm_leaf.specs.Blocks.{Tiles, longest_gap}
-use Rattle.vm_addresses.specs.Tree.Blocks.{TilesSpace}
+use Rattle.vm_leaf.specs.SpaceBlocks.{TilesSpace}
 use Rattle.vm_tree.specs.Shape.{Shape, blocks}
 use Rattle.vm_addresses.specs.Allocator.{space_of, state_of, IsSpaceTree}
 use Rattle.vm_addresses.specs.Queries.{range_if_free, free_of, gaps_of, longest_of, count_of}
 use Rattle.vm_ranges.specs.declared.state.NodeState.{NodeState}
 use Rattle.vm_ranges.specs.declared.state.NodeState.TheVariants.{Free, Allocated}
-use Rattle.vm_addresses.proofs.Comparing.Tilings.{tree_blocks}
+use Rattle.vm_addresses.proofs.Trees.Spaces.{tree_blocks}
 
 pub free_of-free : (b : Block) (bs : List Block) → b.state ≡ Free → free_of (b ∷ bs) ≡ b.key ∷ free_of bs
 free_of-free b bs e = ap (λ (s : NodeState). range_if_free s b.key ++ free_of bs) e

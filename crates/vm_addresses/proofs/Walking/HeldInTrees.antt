@@ -4,10 +4,10 @@ use Rattle.std.proofs.lemmas.List.{append-nil}
 use Rattle.vm_ranges.specs.Range.{Range}
 use Rattle.vm_leaf.specs.declared.block.Block.{Block}
 use Rattle.vm_addresses.specs.Queries.{free_of}
-use Rattle.vm_addresses.specs.Tree.Blocks.{range_if_held, held_of}
+use Rattle.vm_leaf.specs.SpaceBlocks.{range_if_held, held_of}
 use Rattle.vm_ranges.specs.declared.state.NodeState.TheVariants.{Free, Allocated}
-use Rattle.vm_addresses.proofs.Blocks.Gaps.{state_cases}
-use Rattle.vm_addresses.proofs.Blocks.OneList.{held_of-free, held_of-held}
+use Rattle.vm_leaf.proofs.Spaces.Gaps.{state_cases}
+use Rattle.vm_leaf.proofs.Spaces.OneList.{held_of-free, held_of-held}
 use Rattle.vm_addresses.proofs.Walking.GapsInTrees.{free_of-free, free_of-held}
 
 -- ---- Their number

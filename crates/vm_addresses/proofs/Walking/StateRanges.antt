@@ -4,7 +4,7 @@ use Rattle.vm_leaf.specs.declared.block.Block.{Block}
 use Rattle.vm_ranges.specs.declared.state.NodeState.{NodeState}
 use Rattle.vm_ranges.specs.declared.state.NodeState.TheVariants.{Free, Allocated}
 use Rattle.vm_addresses.specs.Queries.{ranges_with}
-use Rattle.vm_addresses.proofs.Blocks.OneList.{held_of-free, held_of-held}
+use Rattle.vm_leaf.proofs.Spaces.OneList.{held_of-free, held_of-held}
 use Rattle.vm_addresses.proofs.Walking.GapsInTrees.{free_of-free, free_of-held, free_of-last_held, free_of-last_free}
 use Rattle.vm_addresses.proofs.Walking.HeldInTrees.{held_of-last_free, held_of-last_held}
 

@@ -5,7 +5,7 @@ use Rattle.vm_ranges.specs.declared.state.NodeState.TheVariants.{Free, Allocated
 use Rattle.vm_tree.specs.Shape.{Shape, blocks}
 use Rattle.vm_tree.specs.Walks.{meeting_blocks}
 use Rattle.vm_addresses.specs.Queries.{free_of, gaps_of, meeting}
-use Rattle.vm_addresses.specs.Tree.Blocks.{held_of}
+use Rattle.vm_leaf.specs.SpaceBlocks.{held_of}
 use Rattle.vm_addresses.specs.Allocator.{state_of, IsSpaceTree}
 use Rattle.vm_addresses.proofs.Blocks.PickedRanges.{held_picked, free_picked, picked_meeting}
 use Rattle.vm_addresses.proofs.Walking.GapsInTrees.{gaps_in_tree}

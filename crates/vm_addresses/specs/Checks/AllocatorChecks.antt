@@ -6,7 +6,7 @@ use Rattle.vm_ranges.specs.Fields.{field_count, is_count}
 use Rattle.vm_ranges.specs.Range.{Range}
 use Rattle.vm_ranges.specs.RangeValues.{decoded_range}
 use Rattle.vm_leaf.specs.declared.block.Block.{Block}
-use Rattle.vm_addresses.specs.Checks.ValueNodes.{WritesTree}
+use Rattle.vm_saved_trees.specs.ValueNodes.{WritesTree}
 
 -- The value is an object with exactly the two fields of an allocator, and a tree with exactly this root.
 pub record AllocatorParts (d space root : Data) : Type 0 where

@@ -6,9 +6,9 @@ use Rattle.vm_ranges.specs.Request.{Request, ByPolicy}
 use Rattle.vm_leaf.specs.declared.block.Block.{Block}
 use Rattle.vm_leaf.specs.Block.{free_block}
 use Rattle.vm_leaf.specs.Fit.{HasNoFit, IsFit, IsLowestFit, IsHighestFit}
-use Rattle.vm_addresses.specs.Address.{AddressState, IsClear, releasing}
-use Rattle.vm_addresses.specs.Answer.{SPLIT_LIMIT_MIN_HELD}
-use Rattle.vm_addresses.specs.Windows.{part_in, window_in}
+use Rattle.vm_ranges.specs.Address.{AddressState, IsClear, releasing}
+use Rattle.vm_ranges.specs.Answer.{SPLIT_LIMIT_MIN_HELD}
+use Rattle.vm_ranges.specs.Windows.{part_in, window_in}
 use Rattle.vm_addresses.specs.declared.address_allocator.moving.BegunMove.{BegunMove}
 use Rattle.vm_ranges.specs.declared.error.Error.{Error}
 use Rattle.vm_ranges.specs.declared.error.Error.TheVariants.{Overflow, OutOfMemory}

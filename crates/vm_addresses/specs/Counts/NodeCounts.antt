@@ -4,11 +4,10 @@ use Rattle.vm_ranges.specs.Range.{Range, MAX}
 use Rattle.vm_ranges.specs.Request.{Request}
 use Rattle.vm_ranges.specs.declared.constraint.AllocPolicy.{AllocPolicy}
 use Rattle.vm_ranges.specs.declared.constraint.AllocPolicy.TheVariants.{FirstMatch, LastMatch, ExactMatch}
-use Rattle.vm_leaf.specs.Windows.{common}
+use Rattle.vm_ranges.specs.Windows.{common, window_in}
 use Rattle.vm_tree.specs.NodeCounts.{nodes_to_address, nodes_to_fit}
 use Rattle.vm_tree.specs.Shape.{Shape}
 use Rattle.vm_tree.specs.declared.end.End.TheVariants.{First, Last}
-use Rattle.vm_addresses.specs.Windows.{window_in}
 
 -- Tests if the address x is in the range.
 abbrev pub has_address : Range → ℕ → Bool

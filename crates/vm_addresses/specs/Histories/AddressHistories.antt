@@ -4,17 +4,16 @@ use Rattle.std.specs.List.{All, Contains, zip}
 use Rattle.std.specs.Result.{result_unwrap_or}
 use Rattle.serde_json.specs.Data.{Data}
 use Rattle.vm_ranges.specs.Range.{Range, MAX, IsRange, Covers, span}
-use Rattle.vm_addresses.specs.Address.{AddressState}
+use Rattle.vm_ranges.specs.Address.{AddressState}
 use Rattle.vm_ranges.specs.Request.{Request}
-use Rattle.vm_addresses.specs.Answer.{Allocates, Frees, Makes}
+use Rattle.vm_ranges.specs.Answer.{Allocates, Frees, Makes}
 use Rattle.vm_addresses.specs.Held.{MakesWithHeld}
-use Rattle.vm_addresses.specs.Values.SavedTrees.{Saved, HasHeldKeys, HasTreeOf}
+use Rattle.vm_saved_trees.specs.SavedTrees.{Saved, HasHeldKeys, HasTreeOf}
 use Rattle.vm_addresses.specs.Several.{AllocatesAll}
 use Rattle.vm_addresses.specs.Moves.{MovesRange}
 use Rattle.vm_ranges.specs.Cloning.{Clones}
 use Rattle.vm_ranges.specs.Histories.{CallOf, IsHistory}
-use Rattle.vm_addresses.specs.Values.AllocatorValues.{EncodesAddresses}
-use Rattle.vm_addresses.specs.Values.AllocatorValues.{EncodesRepaired}
+use Rattle.vm_addresses.specs.Values.AllocatorValues.{EncodesAddresses, EncodesRepaired}
 
 -- A call without its result: a request, several requests at once, the freeing of a range, the move of a range to the place
 -- of a request, or the creation of a clone.

@@ -13,12 +13,12 @@ use Rattle.vm_tree.specs.declared.search.Search.{Search}
 use Rattle.vm_tree.specs.declared.search.Taken.{Taken}
 use Rattle.vm_tree.specs.declared.search.Refusal.{Refusal}
 use Rattle.vm_tree.specs.declared.search.Refusal.TheVariants.{NoPlace, Held, PastMax, OutOfMemory as NoMemory, CannotSplit}
-use Rattle.vm_addresses.specs.Answer.{SPLIT_LIMIT_MIN_HELD, Grants}
+use Rattle.vm_ranges.specs.Answer.{SPLIT_LIMIT_MIN_HELD, Grants}
 use Rattle.vm_addresses.specs.Counts.GapSearch.{SearchesGaps}
 use Rattle.vm_addresses.specs.Counts.NodeCounts.{nodes_of_request}
 use Rattle.vm_addresses.specs.Counts.Steps.{IsGrantCount}
-use Rattle.vm_addresses.specs.Tree.Blocks.{blocks_state}
-use Rattle.vm_addresses.specs.Windows.{window_in}
+use Rattle.vm_leaf.specs.SpaceBlocks.{blocks_state}
+use Rattle.vm_ranges.specs.Windows.{window_in}
 
 -- The error of a refusal. Held is the state of the range that was searched.
 abbrev pub error_of : Range → Refusal → Error

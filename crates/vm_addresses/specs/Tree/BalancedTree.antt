@@ -2,9 +2,10 @@
 use Rattle.std.specs.Prelude.{◌+◌, ◌*◌, ◌^◌, ◌<◌, ◌≤◌, length}
 use Rattle.vm_leaf.specs.declared.leaf.TheConstants.{MIN_BLOCKS}
 use Rattle.vm_tree.specs.Fibonacci.{fibonacci}
-use Rattle.vm_tree.specs.Shape.{Shape, MAX_HEIGHT, blocks, height_of, node_count, IsTree}
-use Rattle.vm_addresses.specs.Address.{AddressState}
-use Rattle.vm_addresses.specs.Tree.Blocks.{IsBlocksOf}
+use Rattle.vm_tree.specs.Shape.{Shape, blocks, height_of, node_count, IsTree}
+use Rattle.vm_leaf.specs.TreeHeights.{MAX_HEIGHT}
+use Rattle.vm_ranges.specs.Address.{AddressState}
+use Rattle.vm_leaf.specs.SpaceBlocks.{IsBlocksOf}
 
 -- s is a balanced tree of the blocks of the state, with MIN_BLOCKS to CAPACITY blocks in each leaf. A leaf that is the whole
 -- tree can have fewer. A tree of height h with k held ranges is bounded in these ways:

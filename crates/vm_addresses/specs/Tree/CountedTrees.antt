@@ -3,7 +3,7 @@ use Rattle.std.specs.Prelude.{◌≡◌, ℕ, length}
 use Rattle.vm_ranges.specs.Range.{Range}
 use Rattle.vm_tree.specs.Shape.{Shape, blocks}
 use Rattle.vm_addresses.specs.Queries.{free_of, count_of}
-use Rattle.vm_addresses.specs.Tree.Blocks.{held_of}
+use Rattle.vm_leaf.specs.SpaceBlocks.{held_of}
 use Rattle.vm_addresses.specs.Allocator.{space_of, IsSpaceTree}
 
 -- The tree is valid. Its space and the numbers of its held ranges, of its gaps, and of its clear addresses are these.

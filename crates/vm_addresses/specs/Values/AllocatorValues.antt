@@ -2,11 +2,11 @@
 use Rattle.std.specs.Prelude.{◌≡◌, Some, codes}
 use Rattle.serde_json.specs.Data.{Data}
 use Rattle.vm_ranges.specs.Fields.{field_count, FieldIs}
-use Rattle.vm_addresses.specs.Address.{AddressState}
+use Rattle.vm_ranges.specs.Address.{AddressState}
 use Rattle.vm_ranges.specs.RangeValues.{EncodesRange}
 use Rattle.vm_ranges.specs.Range.{Range}
-use Rattle.vm_addresses.specs.Values.KeyValues.{EncodesKeys}
-use Rattle.vm_addresses.specs.Values.TreeValues.{EncodesSpaceTree}
+use Rattle.vm_saved_trees.specs.KeyValues.{EncodesKeys}
+use Rattle.vm_saved_trees.specs.TreeValues.{EncodesSpaceTree}
 
 -- The value is an object with exactly one field, a root for which `Root` is true.
 pub record EncodesTree (d : Data) (Root : Data → Type 0) : Type 0 where

@@ -6,21 +6,18 @@ ghost use Rattle.vm_ranges.specs.declared.constraint.AllocPolicy.TheVariants.{Ex
 ghost use Rattle.vm_tree.specs.Allocation.{IsSearch};
 ghost use Rattle.vm_tree.specs.Roots.{IsBlockTree};
 ghost use Rattle.vm_tree.specs.Shape.{blocks, height_of};
-ghost use Rattle.vm_addresses.specs.Address.{IsAddressState};
-ghost use Rattle.vm_addresses.specs.Answer.{SPLIT_LIMIT_MIN_HELD, Grants, Allocates, FillsGap};
+ghost use Rattle.vm_ranges.specs.Address.{IsAddressState};
+ghost use Rattle.vm_ranges.specs.Answer.{SPLIT_LIMIT_MIN_HELD, Grants, Allocates, FillsGap};
 ghost use Rattle.vm_addresses.specs.Counts.GapSearch.{SearchesGaps};
 ghost use Rattle.vm_addresses.specs.Counts.Steps.{EntersToAllocate, IsAllocationCount};
 ghost use Rattle.vm_addresses.specs.Tree.Allocation.{with_error, IsSearchOf, IsAllocation};
-ghost use Rattle.vm_addresses.specs.Tree.Blocks.{IsTiling, held_of};
+ghost use Rattle.vm_leaf.specs.SpaceBlocks.{IsTiling, held_of};
 ghost use Rattle.vm_addresses.specs.Allocator.{state_of};
 
 use super::AddressAllocator;
 use std::alloc::Global;
-use vm_ranges::{AllocPolicy, Constraint, Error, NodeState, RangeInclusive, Result};
+use vm_ranges::{AllocPolicy, Constraint, Error, NodeState, RangeInclusive, Result, SPLIT_LIMIT};
 use vm_tree::{End, Refusal, Search, Spare, Steps, Taken, Tree};
-
-/// If this many ranges are allocated, no gap is split. So no tree gets too high.
-pub(crate) const SPLIT_LIMIT: u64 = 6_293_134_512;
 
 impl AddressAllocator {
     /// Allocates like [`allocate_constraint`](Self::allocate_constraint), and also returns the number

@@ -4,7 +4,7 @@ ghost use Rattle.std.specs.Iterator.{YieldsFirst, YieldsLast, UpTo, at_most, ite
 ghost use Rattle.std.specs.Iterator.SizeHint.{IsWithinCount};
 ghost use Rattle.vm_addresses.specs.Allocator.{state_of};
 ghost use Rattle.vm_addresses.specs.Queries.{block_parts};
-ghost use Rattle.vm_addresses.specs.Tree.Blocks.{blocks_of};
+ghost use Rattle.vm_leaf.specs.SpaceBlocks.{blocks_of};
 
 use super::AddressAllocator;
 use std::marker::Model;

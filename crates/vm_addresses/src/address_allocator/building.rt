@@ -4,10 +4,11 @@
 ghost use Rattle.std.specs.Prelude.{◌≡◌, ◌+◌, ◌<◌, ◌≤◌, Some, None, Ok, IfOk, IfErr, MatchResult};
 ghost use Rattle.vm_ranges.specs.ListErrors.{by_error};
 ghost use Rattle.vm_ranges.specs.Range.{IsRange};
-ghost use Rattle.vm_tree.specs.Building.{IsLowestTree, TOO_MANY_BLOCKS};
+ghost use Rattle.vm_tree.specs.Building.{IsLowestTree};
+ghost use Rattle.vm_leaf.specs.TreeHeights.{TOO_MANY_BLOCKS};
 ghost use Rattle.vm_addresses.specs.Checks.HeldKeys.{CanBeHeld};
-ghost use Rattle.vm_addresses.specs.Address.{IsAddressState};
-ghost use Rattle.vm_addresses.specs.Held.{MakesHeld, MakesWithHeld, HasFaultIndex, CountsBlocks, range_fault, fault_index};
+ghost use Rattle.vm_ranges.specs.Address.{IsAddressState, AreInOrder};
+ghost use Rattle.vm_addresses.specs.Held.{MakesHeld, MakesWithHeld, HasFaultIndex, ChecksHeld, CountsBlocks, range_fault, fault_index};
 ghost use Rattle.vm_addresses.specs.Allocator.{state_of, made_state};
 
 use super::{AddressAllocator, space_from};
@@ -67,7 +68,8 @@ impl AddressAllocator {
         ensures low { IfOk result IsLowestTree }
         ensures state { IfOk result (λ allocator. IsAddressState (state_of allocator)) }
     {
-        let (count, left) = count_blocks(&space, held)?;
+        check_held(&space, held)?;
+        let (count, left) = count_blocks(&space, held);
         if count >= TOO_MANY_BLOCKS {
             return Err(Error::Overflow.into());
         }
@@ -87,10 +89,7 @@ impl AddressAllocator {
         ensures low { IfOk result IsLowestTree }
         ensures state { IfOk result (λ allocator. IsAddressState (state_of allocator)) }
     {
-        let Ok((count, left)) = count_blocks(&space, held) else {
-            // `held` can be held, so it has no error.
-            unreachable!()
-        };
+        let (count, left) = count_blocks(&space, held);
         build(alloc, space, held, count, left)
     }
 }
@@ -104,7 +103,8 @@ fn build(
     count: u64,
     left: u64,
 ) -> std::result::Result<AddressAllocator, AllocError>
-    requires counted { CountsBlocks space held.now (Ok (count, left)) }
+    requires in_order { AreInOrder space.start held.now space.end }
+    requires counted { CountsBlocks space held.now (count, left) }
     requires few { count < TOO_MANY_BLOCKS }
     ensures made { IfOk result (λ allocator. state_of allocator ≡ record { space = space; held = held.now }) }
     ensures low { IfOk result IsLowestTree }
@@ -121,23 +121,35 @@ fn build(
     })
 }
 
-/// Returns the numbers of blocks and of free addresses of the space with these ranges allocated, or the
-/// error of the first range that cannot be allocated.
-fn count_blocks(
+/// Checks that these ranges can be allocated in the space. The error has the index of the first that cannot.
+fn check_held(
     space: &RangeInclusive,
     held: &[RangeInclusive],
-) -> std::result::Result<(u64, u64), ListError>
-    ensures checked { CountsBlocks space.now held.now result }
+) -> std::result::Result<(), ListError>
+    ensures checked { ChecksHeld space.now held.now result }
     ensures space { IsRange space.now.start space.now.end }
 {
     let end = space.end();
     let mut next = space.start();
-    let (mut count, mut left) = (0, 0);
     for (index, range) in held.iter().enumerate() {
         if let Err(error) = check_next(next, end, range) {
             let index = Some(index);
             return Err(ListError { index, error });
         }
+        next = range.end() + 1;
+    }
+    Ok(())
+}
+
+/// Returns the numbers of blocks and of free addresses of the space with these ranges allocated.
+fn count_blocks(space: &RangeInclusive, held: &[RangeInclusive]) -> (u64, u64)
+    requires { AreInOrder space.now.start held.now space.now.end }
+    ensures { CountsBlocks space.now held.now result }
+{
+    let end = space.end();
+    let mut next = space.start();
+    let (mut count, mut left) = (0, 0);
+    for range in held {
         if next < range.start() {
             count += 1;
             left += range.start() - next;
@@ -149,7 +161,7 @@ fn count_blocks(
         count += 1;
         left += end - next + 1;
     }
-    Ok((count, left))
+    (count, left)
 }
 
 /// Checks that a range can be allocated if it must start at `next` or later, in a space that ends at

@@ -2,7 +2,7 @@
 ghost use Rattle.std.specs.Prelude.{◌≡◌};
 ghost use Rattle.std.specs.List.{Contains};
 ghost use Rattle.vm_ranges.specs.Request.{IsRequest};
-ghost use Rattle.vm_addresses.specs.Address.{releasing, without_range};
+ghost use Rattle.vm_ranges.specs.Address.{releasing, without_range};
 ghost use Rattle.vm_addresses.specs.Allocator.{state_of};
 ghost use Rattle.vm_addresses.specs.Conflicts.{IsConflict, IsMoveConflict, IsWindowConflict, ConflictDecides, LooksAt, with_first};
 ghost use Rattle.vm_addresses.specs.Queries.{meeting};

@@ -1,7 +1,7 @@
 //! Frees an allocated range.
 ghost use Rattle.std.specs.Prelude.{◌≡◌, OnErr};
-ghost use Rattle.vm_addresses.specs.Address.{IsAddressState};
-ghost use Rattle.vm_addresses.specs.Answer.{Frees};
+ghost use Rattle.vm_ranges.specs.Address.{IsAddressState};
+ghost use Rattle.vm_ranges.specs.Answer.{Frees};
 ghost use Rattle.vm_addresses.specs.Counts.Steps.{IsFreeCount};
 ghost use Rattle.vm_addresses.specs.Allocator.{state_of};
 

@@ -1,7 +1,7 @@
 //! Queries of the allocated ranges: iterators, a test, a search by an address, and a count.
 ghost use Rattle.std.specs.Prelude.{◌≡◌, ◌↔◌, IsTrue, length};
 ghost use Rattle.std.specs.List.{Contains};
-ghost use Rattle.vm_addresses.specs.Address.{IsAddressState};
+ghost use Rattle.vm_ranges.specs.Address.{IsAddressState};
 ghost use Rattle.vm_addresses.specs.Queries.{IsHeldAt, meeting};
 ghost use Rattle.vm_addresses.specs.Allocator.{state_of};
 

@@ -10,10 +10,10 @@ ghost use Rattle.vm_ranges.specs.Cases.{IsTestOf};
 ghost use Rattle.vm_ranges.specs.Range.{Range, IsRange, Covers, address_count};
 ghost use Rattle.vm_ranges.specs.Request.{Request, IsRequest};
 ghost use Rattle.vm_ranges.specs.declared.constraint.AllocPolicy.TheVariants.{ExactMatch};
-ghost use Rattle.vm_addresses.specs.Address.{AddressState, IsAddressState};
-ghost use Rattle.vm_addresses.specs.Answer.{SPLIT_LIMIT_MIN_HELD, Grants};
+ghost use Rattle.vm_ranges.specs.Address.{AddressState, IsAddressState};
+ghost use Rattle.vm_ranges.specs.Answer.{SPLIT_LIMIT_MIN_HELD, Grants};
 ghost use Rattle.vm_addresses.specs.Allocator.{state_of};
-ghost use Rattle.vm_addresses.specs.Windows.{part_in};
+ghost use Rattle.vm_ranges.specs.Windows.{part_in};
 ghost use Rattle.vm_leaf.specs.Block.{free_block};
 ghost use Rattle.vm_addresses.specs.Moves.{request_to, replacing, MovesRange, CanReplace, IsBegun, BeginsMove};
 ghost use Rattle.vm_addresses.specs.Checks.Moving.{
@@ -27,10 +27,9 @@ ghost use Rattle.vm_addresses.specs.Checks.Moving.{
 };
 
 use super::AddressAllocator;
-use super::allocation::SPLIT_LIMIT;
 use std::alloc::Global;
 use vm_leaf::{highest_fit, lowest_fit};
-use vm_ranges::{AllocPolicy, Constraint, Error, RangeInclusive, Result};
+use vm_ranges::{AllocPolicy, Constraint, Error, RangeInclusive, Result, SPLIT_LIMIT};
 use vm_tree::Spare;
 
 /// A move that was begun. Nothing that is left to do can fail.

@@ -3,17 +3,17 @@ ghost use Rattle.std.specs.Prelude.{◌≡◌, IfOk, option_map};
 ghost use Rattle.serde_json.specs.View.{view};
 ghost use Rattle.vm_tree.specs.Shape.{blocks};
 ghost use Rattle.vm_tree.specs.Building.{IsLowestTree};
-ghost use Rattle.vm_addresses.specs.Address.{IsAddressState};
+ghost use Rattle.vm_ranges.specs.Address.{IsAddressState};
 ghost use Rattle.vm_ranges.specs.Saving.{Saves, Reads};
 ghost use Rattle.vm_addresses.specs.Allocator.{state_of, made_state};
-ghost use Rattle.vm_addresses.specs.Values.AllocatorValues.{EncodesAddresses};
-ghost use Rattle.vm_addresses.specs.Values.AllocatorValues.{EncodesRepaired};
+ghost use Rattle.vm_addresses.specs.Values.AllocatorValues.{EncodesAddresses, EncodesRepaired};
 ghost use Rattle.vm_addresses.specs.Checks.AllocatorChecks.{AllocatorParts, WritesAllocator, decoded_parts, decoded_root};
 
 use crate::address_allocator::AddressAllocator;
 use serde_json::{Value, json};
 use std::alloc::{AllocError, Global};
 use vm_ranges::{RangeInclusive, Result, ValueError, has_fields, range_in};
+use vm_saved_trees::Form;
 
 impl AddressAllocator {
     /// Encodes the allocator as a value: its space, and a balanced tree of its blocks.
@@ -51,7 +51,7 @@ impl AddressAllocator {
         let Some(parts) = decode_parts(value) else {
             return Err(ValueError::NotAState);
         };
-        Self::from_root_value(alloc, &parts.space, parts.root)
+        Self::from_root_value(alloc, &parts.space, parts.root, Form::Strict)
     }
 
     /// Decodes an allocator from a value that vm-allocator saved, and repairs the effects of its bugs.
@@ -87,7 +87,7 @@ impl AddressAllocator {
         let Some(parts) = decode_parts(value) else {
             return Err(ValueError::NotAState);
         };
-        Self::from_root_value_repaired(alloc, &parts.space, parts.root)
+        Self::from_root_value(alloc, &parts.space, parts.root, Form::Repaired)
     }
 }
 

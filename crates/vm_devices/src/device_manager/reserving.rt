@@ -4,7 +4,7 @@ ghost use Rattle.std.specs.FinMap as map;
 ghost use Rattle.vm_ranges.specs.Range.{Covers, address_count};
 ghost use Rattle.vm_ranges.specs.Request.{request_for};
 ghost use Rattle.vm_ranges.specs.declared.error.Error.TheVariants.{OutOfMemory};
-ghost use Rattle.vm_addresses.specs.Answer.{IsChosen};
+ghost use Rattle.vm_ranges.specs.Answer.{IsChosen};
 ghost use Rattle.vm_ids.specs.Ids.{IsLowestNotHeld, IsNotHeld, holding_id};
 ghost use Rattle.vm_ids.specs.IdRequests.{Peeks};
 ghost use Rattle.vm_ids.specs.declared.id_request.IdRequest.TheVariants.{Lowest};

@@ -67,7 +67,7 @@ use Rattle.vm_ids.specs.IdRequests.{
 use Rattle.vm_ranges.specs.Histories.{EveryCallIsAnswered, EveryListHasHistory}
 use Rattle.vm_ranges.proofs.Histories.{every_list}
 use Rattle.vm_ids.specs.Histories.IdHistories.{Allocate, AllocateExact, AllocateIn, AllocateSeveral, Free, Clone, IsIdCallFrom}
-use Rattle.vm_ids.specs.Laws.IdHistoryLaws.{EveryIdCallIsAnswered}
+use Rattle.vm_ids.specs.Facts.{EveryIdCallIsAnswered}
 use Rattle.vm_ranges.specs.declared.error.Error.{Error}
 use Rattle.vm_ranges.specs.declared.error.Error.TheVariants.{
   OutOfMemory,

@@ -20,7 +20,7 @@ use Rattle.vm_chunks.specs.Runs.{ids_of_run}
 use Rattle.vm_chunks.specs.declared.id_set.Run.{Run}
 use Rattle.std.proofs.lemmas.Bool.{cases_lt}
 use Rattle.std.proofs.lemmas.Grind.{flat_map-append}
-use Rattle.vm_ids.specs.Laws.IdLaws.{HeldIdsAreListed}
+use Rattle.vm_ids.specs.Facts.{HeldIdsAreListed}
 use Rattle.vm_ids.proofs.Ids.IdSets.{held_test, bound_fits}
 use Rattle.vm_ids.proofs.Ids.AscendingBounds.{rise, within}
 use Rattle.vm_ids.proofs.Ids.IdRows.{same_kept, row_kept, row_end, row_parted, passed_rise, row_passed}

@@ -28,6 +28,9 @@ use Rattle.std.proofs.Common.{
   ⊎_elim,
   Option,
   IsTrue,
+  AllPairs,
+  ◌≢◌,
+  ◌↔◌,
 }
 use Rattle.std.proofs.lemmas.Bool.{cases_eq, both_ways, and_from, or_left, or_right}
 use Rattle.std.proofs.lemmas.List.Elements.{All-head, All-tail, All-from_recursion}
@@ -42,7 +45,6 @@ use Rattle.std.specs.BTreeSet.{BTreeSet, btree_set_len, IsOrdered}
 use Rattle.std.specs.FinSet as set
 use Rattle.vm_ranges.proofs.NumberSets.{tied_here, tied_is, apart_not_tied, same_members, removed_other}
 use Rattle.vm_ids.specs.Ids.{IdState, IsHeld, held_count, bound_of, unfreed_ids, ids_of, AreIds}
-use Rattle.vm_ids.specs.Laws.IdLaws.{IdCountFindsAll}
 use Rattle.vm_ranges.proofs.Listed.{Differ, listed_is, each_listed}
 use Rattle.vm_ids.proofs.Ids.IdSets.{row_test, inserted_test, removed_test, bound_above}
 
@@ -164,7 +166,8 @@ as_many s is d a each =
     (λ q h. set.contains-from_list nat_cmp_total is q ∙ (is_member-Decides tells_apart is q).1 (each q h)) in
     sym (len-differing is (IsDistinct-from_AllPairs tells_apart is d)) ∙ ap set.len is_set
 
-pub ids_listed : IdCountFindsAll
+pub ids_listed : (state : IdState) (list : List ℕ) → AllPairs (λ i j. i ≢ j) list → All (IsHeld state) list →
+    (length list ≡ held_count state) ↔ ((i : ℕ) → IsHeld state i → Contains list i)
 ids_listed state list d a = (
   λ e i. each_listed tells_apart (IsHeld state) (held_count state)
       (λ is f h. few_in is state.held (IsDistinct-from_AllPairs tells_apart is f) h) list i d a e,

@@ -16,7 +16,7 @@ use Rattle.vm_ids.specs.Ids.{
   PeeksId,
   FreesId,
 }
-use Rattle.vm_ids.specs.Laws.IdLaws.{MakingIsDetermined, AllocatingIsDetermined, PeekingPredicts, AddsId, AllocatingAdds, FreeingRemoves}
+use Rattle.vm_ids.specs.Facts.{PeekingPredicts, AddsId, RemovesId}
 use Rattle.vm_ranges.specs.declared.error.Error.{Error}
 use Rattle.vm_ranges.specs.declared.error.Error.TheVariants.{Overflow, ResourceNotAvailable}
 use Rattle.vm_ranges.proofs.TwoFacts.{if_same}
@@ -38,11 +38,12 @@ by_same_lowest state takes takes' refused refused' G (inl a) (inr b) f g = absur
 by_same_lowest state takes takes' refused refused' G (inr a) (inl b) f g = absurd (b.1.0.1 (a.0 b.0 b.1.0.0))
 by_same_lowest state takes takes' refused refused' G (inr a) (inr b) f g = if_same _ _ _ _ _ a.1 b.1 (g Overflow) (g ResourceNotAvailable)
 
-pub making_is_determined : MakingIsDetermined
+pub making_is_determined : (lo hi : ℕ) (answer other : Result IdState Error) → MakesIds lo hi answer → MakesIds lo hi other → answer ≡ other
 unfolding MakesIds
 making_is_determined lo hi r s a b = grind arith
 
-pub allocating_is_determined : AllocatingIsDetermined
+pub allocating_is_determined : (old new later : IdState) (answer other : Result ℕ Error) →
+    AllocatesId old answer new → AllocatesId old other later → (answer ≡ other) × (new ≡ later)
 unfolding AllocatesId
 allocating_is_determined old new other r s a b =
     by_same_lowest old _ _ _ _ _ a b (λ i x y. (x.0 ∙ sym y.0, x.1 ∙ sym y.1)) (λ e x y. (x.0 ∙ sym y.0, x.1 ∙ sym y.1))
@@ -110,10 +111,10 @@ adds old id s a =
       held = λ q. (λ h. grind (arith, inserted_test), λ h. grind (arith, inserted_test));
     }
 
-pub allocating_adds : AllocatingAdds
+pub allocating_adds : (old new : IdState) (id : ℕ) → IsIdState old → AllocatesId old (Ok id) new → AddsId old new id
 allocating_adds old new id s h = let f = lowest_is_held old new (Ok id) h in rw f.1 (adds old id s f.0)
 
-pub freeing_removes : FreeingRemoves
+pub freeing_removes : (old new : IdState) (id back : ℕ) → FreesId old id (Ok back) new → RemovesId old new id
 freeing_removes old new id back h =
     rw (freed_is_removed old new id (Ok back) h).1
     (record {

@@ -2,7 +2,7 @@
 use Rattle.std.proofs.Common.{◌≡◌, ℕ, ◌<◌, ◌≤◌, ◌⊎◌, ◌↔◌, refl, sym, ap, ◌∙◌, arith, inl, inr, ⊎_elim, Result, Ok, Err, IfOk}
 use Rattle.vm_ids.specs.Ids.{IdState, IsOfRange, IsHeld, IsNotHeld, IsLowestNotHeld, ByLowestNotHeld, AllocatesId, PeeksId, holding_id, releasing_id}
 use Rattle.vm_ids.specs.IdRequests.{Peeks, HoldsId, AllocatesPeeked, AllocatesExactId, IsLowestNotHeldIn, IsNoneNotHeldIn}
-use Rattle.vm_ids.specs.Laws.IdRequestLaws.{AllocatesFor, PeekedIsAllocated}
+use Rattle.vm_ids.specs.Facts.{AllocatesFor}
 use Rattle.vm_ids.specs.declared.id_request.IdRequest.{IdRequest}
 use Rattle.vm_ids.specs.declared.id_request.IdRequest.TheVariants.{Lowest, LowestIn, Exact}
 use Rattle.vm_ranges.specs.declared.error.Error.{Error}
@@ -101,7 +101,8 @@ as_peeked old new Lowest answer a = grind arith
 as_peeked old new (LowestIn first last) answer a = peeked_or_memory old new (LowestIn first last) answer a
 as_peeked old new (Exact id) answer a = peeked_or_memory old new (Exact id) answer a
 
-pub peeked_is_allocated : PeekedIsAllocated
+pub peeked_is_allocated : (old new : IdState) (request : IdRequest) (peeked answer : Result ℕ Error) → Peeks old request peeked →
+    AllocatesFor old request answer new → (answer ≡ peeked) ⊎ (answer ≡ Err OutOfMemory)
 peeked_is_allocated old new request peeked answer p a =
     ⊎_elim (λ same. inl (peeks_once old request answer peeked same p)) (λ memory. inr memory) (as_peeked old new request answer a)
 

@@ -33,6 +33,7 @@ use Rattle.std.proofs.Common.{
   Ok,
   Err,
   Less,
+  ◌↔◌,
 }
 use Rattle.std.proofs.lemmas.Bool.{cases_lt, le-leb, lt-leb}
 use Rattle.std.specs.List.{AllByRecursion, list_any}
@@ -43,7 +44,7 @@ use Rattle.vm_ranges.specs.declared.saved.SavedError.{SavedError}
 use Rattle.vm_ranges.specs.declared.saved.SavedError.TheVariants.{Violated, OutOfMemory}
 use Rattle.vm_ids.specs.Ids.{MAX_ID, IdState, IsIdState, IsNext, bound_of, ids_of, freed_ids, next_id_of}
 use Rattle.vm_ids.specs.FreedLists.{AreFreedOf, PushesId, MakesOfIds}
-use Rattle.vm_ids.specs.Laws.IdPartLaws.{WrittenIdsAreRead, PartsDecideIds}
+use Rattle.vm_ids.specs.Facts.{WrittenIdsAreRead}
 use Rattle.vm_ids.proofs.Ids.IdSets.{held_test, same_state}
 use Rattle.vm_ids.proofs.Ids.IdRows.{passed_rise, row_passed}
 
@@ -122,7 +123,8 @@ state_made state (Err OutOfMemory) s m = absurd m
 pub written_ids : WrittenIdsAreRead
 written_ids = record { accepted = parts_accepted; same = parts_same; pushed = id_pushed; made = state_made }
 
-pub parts_decide : PartsDecideIds
+pub parts_decide : (a b : IdState) → IsIdState a → IsIdState b →
+    (a ≡ b) ↔ ((a.lo ≡ b.lo) × (a.hi ≡ b.hi) × (next_id_of a ≡ next_id_of b) × (freed_ids a ≡ freed_ids b))
 parts_decide a b s t = (
   λ e. (
     ap (λ (v : IdState). v.lo) e,

@@ -3,7 +3,7 @@ ghost use Rattle.std.specs.Prelude.{◌≡◌, ◌%◌, ◌⊎◌, OnErr, IfErr,
 ghost use Rattle.vm_ranges.specs.Range.{Covers, address_count};
 ghost use Rattle.vm_ranges.specs.Request.{request_for};
 ghost use Rattle.vm_ranges.specs.declared.error.Error.TheVariants.{OutOfMemory};
-ghost use Rattle.vm_addresses.specs.Answer.{IsChosen};
+ghost use Rattle.vm_ranges.specs.Answer.{IsChosen};
 ghost use Rattle.vm_range_map.specs.RangeMaps.{IsMapState, AllocatesWith, with_range};
 ghost use Rattle.vm_range_map.specs.Trees.{map_state};
 

@@ -18,4 +18,5 @@ mod vm_leaf;
 pub mod vm_lines;
 pub mod vm_range_map;
 pub mod vm_ranges;
+pub mod vm_saved_trees;
 mod vm_tree;

@@ -1,7 +1,7 @@
 //! Creates a manager of both allocators and its devices, which are read one by one.
 ghost use Rattle.std.specs.Prelude.{◌≡◌, [], ◌∷◌, ◌++◌, IfOk};
 ghost use Rattle.vm_ranges.specs.Cases.{IsTestOf};
-ghost use Rattle.vm_addresses.specs.Address.{IsAddressState};
+ghost use Rattle.vm_ranges.specs.Address.{IsAddressState};
 ghost use Rattle.vm_addresses.specs.Allocator.{state_of};
 ghost use Rattle.vm_ids.specs.Ids.{IsIdState};
 ghost use Rattle.vm_devices.specs.Devices.{IsDeviceState};

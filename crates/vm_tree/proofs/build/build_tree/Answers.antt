@@ -1,7 +1,8 @@
 use Rattle.std.proofs.Common.{◌≡◌, ◌-◌, ◌+◌, ◌/◌, ◌%◌, ◌<◌, refl, arith}
 use Rattle.std.proofs.lemmas.Result.{IfOk-weaker}
 use Rattle.vm_tree.specs.Links.{side}
-use Rattle.vm_tree.specs.Building.{blocks_between, remaining_blocks, IsBuilt}
+use Rattle.vm_tree.specs.Building.{remaining_blocks, IsBuilt}
+use Rattle.vm_leaf.specs.SpaceBlocks.{blocks_between}
 use Rattle.vm_tree.proofs.Plans.{some_between, plan, needed, count_is, tree_is}
 use Rattle.vm_tree.proofs.build.build_tree.Goals as goal
 use Rattle.vm_leaf.specs.declared.leaf.TheConstants.{CAPACITY}

@@ -30,7 +30,6 @@ pub(in crate::proved::vm_addresses) mod ranges;
 mod several;
 mod with_free;
 
-pub(in crate::proved::vm_addresses) use allocation::SPLIT_LIMIT;
 pub use conflicts::Conflict;
 
 /// Allocates ranges of addresses from one space.
@@ -179,12 +178,9 @@ impl AddressAllocator {
     /// - at least 1 and at least h / 2 for a success.
     /// - 0 for `InvalidSize`, `InvalidAlignment` and `UnalignedAddress`.
     ///
-    /// A search enters a subtree only if one of its gaps is long enough and one has a multiple of
-    /// `alignment`. So `FirstMatch` and `LastMatch` enter at most h(v + 1) nodes, and at most hv if they
-    /// return `ResourceNotAvailable`. Here v is the lesser of two numbers:
-    /// - The gaps that are long enough but misaligned. This number is 0 if `alignment` is 1.
-    /// - The gaps that have a multiple of `alignment` but are too short after it. There are at most
-    ///   as many as multiples of `alignment` in the space.
+    /// `FirstMatch` and `LastMatch` enter at most h(v + 1) nodes, and at most hv if they return
+    /// `ResourceNotAvailable`. Here v is the number of gaps that are long enough but misaligned. It is 0 if
+    /// `alignment` is 1.
     ///
     /// # Errors
     ///

@@ -9,14 +9,12 @@
 //! - [`ReadNodes`] reads the nodes of a saved tree, and [`WrittenTree`] has those that are written.
 
 mod address_allocator;
-mod saved;
 
 pub use crate::proved::vm_ranges::{
     AllocPolicy, Condition, Constraint, Error, ListError, RangeInclusive, Result, SavedError,
     ValueError, DEFAULT_CONSTRAINT_ALIGN,
 };
+pub use crate::proved::vm_saved_trees::{ReadNodes, Side, WrittenBlocks, WrittenNode, WrittenTree};
 pub use address_allocator::blocks::AllBlocks;
 pub use address_allocator::ranges::{Ranges, RangesIn};
 pub use address_allocator::{AddressAllocator, Conflict};
-pub use saved::nodes::{ReadNodes, Side};
-pub use saved::written::{WrittenBlocks, WrittenNode, WrittenTree};

@@ -43,6 +43,9 @@ pub struct Constraint {
     window: Option<RangeInclusive>,
 }
 
+/// If this many ranges are allocated, no gap is split. So no tree gets too high.
+pub const SPLIT_LIMIT: u64 = 6_293_134_512;
+
 impl Constraint {
     /// Creates a request for `size` addresses that start at a multiple of `align`.
     ///

@@ -1,7 +1,7 @@
 use Rattle.std.proofs.Common.{◌≡◌, ◌+◌, take, sym, ap, subst, arith, inr, Ok}
 use Rattle.vm_ranges.specs.Range.{Range}
 use Rattle.std.specs.Prelude.{List}
-use Rattle.vm_addresses.specs.Address.{AddressState, IsAddressState}
+use Rattle.vm_ranges.specs.Address.{AddressState, IsAddressState}
 use Rattle.vm_addresses.specs.Allocator.{state_of}
 use Rattle.vm_addresses.proofs.Results.AddressResults.{allocated_state}
 use Rattle.vm_addresses.proofs.Trees.Spaces.{state_of_tree}

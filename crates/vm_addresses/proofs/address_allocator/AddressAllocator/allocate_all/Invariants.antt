@@ -1,6 +1,6 @@
 use Rattle.std.proofs.Common.{◌≡◌, ◌≤◌, length, take}
 use Rattle.std.specs.Vec.{vec_len, vec_capacity}
-use Rattle.vm_addresses.specs.Address.{IsAddressState}
+use Rattle.vm_ranges.specs.Address.{IsAddressState}
 use Rattle.vm_addresses.specs.Allocator.{state_of}
 use Rattle.vm_addresses.specs.Several.{AllocatesEach}
 use Rattle.vm_addresses.proofs.address_allocator.AddressAllocator.allocate_all.Given as goal

@@ -4,9 +4,9 @@ use Rattle.vm_ranges.specs.Cases.{IsTestOf}
 use Rattle.vm_ranges.specs.Range.{Range}
 use Rattle.vm_ranges.specs.Request.{Request, IsRequest}
 use Rattle.vm_ranges.specs.declared.error.Error.{Error}
-use Rattle.vm_addresses.specs.Address.{AddressState}
+use Rattle.vm_ranges.specs.Address.{AddressState}
 use Rattle.vm_addresses.specs.Allocator.{state_of}
-use Rattle.vm_addresses.specs.Answer.{SPLIT_LIMIT_MIN_HELD, Grants, Allocates}
+use Rattle.vm_ranges.specs.Answer.{SPLIT_LIMIT_MIN_HELD, Grants, Allocates}
 use Rattle.vm_addresses.proofs.Results.Filling.{allocates_filling}
 use Rattle.vm_addresses.proofs.Results.Requests.{request_allocates}
 use Rattle.vm_addresses.proofs.address_allocator.AddressAllocator.allocate_constraint_counted.Goals as goal

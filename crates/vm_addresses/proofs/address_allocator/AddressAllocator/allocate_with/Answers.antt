@@ -1,8 +1,8 @@
 use Rattle.std.proofs.Common.{◌≡◌, ◌≤◌, true, length, Bool, Ok, Err, arith}
 use Rattle.vm_tree.specs.Shape.{Shape, blocks}
 use Rattle.vm_addresses.specs.Allocator.{state_of}
-use Rattle.vm_addresses.specs.Answer.{SPLIT_LIMIT_MIN_HELD}
-use Rattle.vm_addresses.specs.Tree.Blocks.{held_of}
+use Rattle.vm_ranges.specs.Answer.{SPLIT_LIMIT_MIN_HELD}
+use Rattle.vm_leaf.specs.SpaceBlocks.{held_of}
 use Rattle.vm_addresses.proofs.Placing.Counted.{IsAnswered, refused_answer, refused_state, taken_new, taken_gaps, taken_clear, granted_state, granted_answer}
 use Rattle.vm_addresses.proofs.Trees.CountedTrees.{held_fits}
 use Rattle.vm_addresses.proofs.address_allocator.AddressAllocator.allocate_with.Goals as goal

@@ -1,7 +1,7 @@
 use Rattle.std.proofs.Common.{◌-◌, length, sym, subst, Ok}
 use Rattle.vm_ranges.specs.Range.{Range}
 use Rattle.vm_addresses.specs.Allocator.{state_of}
-use Rattle.vm_addresses.specs.Answer.{Grants}
+use Rattle.vm_ranges.specs.Answer.{Grants}
 use Rattle.vm_addresses.proofs.Moving.Beginning.{away_begins}
 use Rattle.vm_addresses.proofs.address_allocator.AddressAllocator.begin_away.Goals as goal
 

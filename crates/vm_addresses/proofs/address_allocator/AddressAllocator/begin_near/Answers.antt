@@ -4,7 +4,7 @@ use Rattle.vm_ranges.specs.declared.error.Error.{Error}
 use Rattle.vm_ranges.specs.declared.error.Error.TheVariants.{ResourceNotAvailable}
 use Rattle.vm_tree.specs.Shape.{Shape}
 use Rattle.vm_addresses.specs.Allocator.{state_of}
-use Rattle.vm_addresses.specs.Answer.{Grants}
+use Rattle.vm_ranges.specs.Answer.{Grants}
 use Rattle.vm_addresses.specs.Moves.{BeginsMove}
 use Rattle.vm_addresses.specs.Checks.Moving.{BeginsInside}
 use Rattle.vm_addresses.proofs.Moving.Beginning.{none_closer_begins, closer_begins}

@@ -9,4 +9,4 @@ returns-in_default-clause-answer c = none_repaired (view c.args.value.now) (sym 
 pub returns-clause-answer : goal.returns-clause-answer
 returns-clause-answer c =
     repaired_read_by (view c.args.value.now) c.in-Some.parts.space (view c.in-Some.parts.root.now) _ (sym c.in-Some.ensures)
-    c.from_root_value_repaired.ensures.answer
+    c.from_root_value.ensures.answer

@@ -1,6 +1,6 @@
 use Rattle.std.proofs.Common.{◌≡◌, refl}
 use Rattle.std.specs.List.{Contains}
-use Rattle.vm_addresses.specs.Address.{IsAddressState}
+use Rattle.vm_ranges.specs.Address.{IsAddressState}
 use Rattle.vm_addresses.specs.Allocator.{state_of}
 use Rattle.vm_addresses.specs.Conflicts.{IsMoveConflict}
 use Rattle.vm_addresses.proofs.Results.Conflicts.{move_decides, first_in_the_way, not_by_held}

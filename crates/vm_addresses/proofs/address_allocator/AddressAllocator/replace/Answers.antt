@@ -3,9 +3,9 @@ use Rattle.std.proofs.lemmas.Bool.{cases_lt, lt-ltb, le-ltb}
 use Rattle.vm_ranges.specs.Cases.{IsTestOf}
 use Rattle.vm_ranges.specs.Request.{Request, request_for, MakesConstraint}
 use Rattle.vm_ranges.specs.declared.constraint.AllocPolicy.TheVariants.{ExactMatch}
-use Rattle.vm_addresses.specs.Address.{AddressState, releasing}
+use Rattle.vm_ranges.specs.Address.{AddressState, releasing}
 use Rattle.vm_addresses.specs.Allocator.{state_of}
-use Rattle.vm_addresses.specs.Answer.{SPLIT_LIMIT_MIN_HELD, Grants, Frees}
+use Rattle.vm_ranges.specs.Answer.{SPLIT_LIMIT_MIN_HELD, Grants, Frees}
 use Rattle.vm_addresses.specs.Moves.{request_to}
 use Rattle.vm_addresses.proofs.Moving.Finishing.{enters_gap}
 use Rattle.vm_addresses.proofs.Results.Moves.{start_is_valid, made_to}

@@ -1,6 +1,6 @@
 use Rattle.std.proofs.Common.{◌≡◌, ◌∙◌}
 use Rattle.vm_tree.specs.Shape.{blocks}
-use Rattle.vm_addresses.proofs.SavedNodes.ValueLaws.{value_written}
+use Rattle.vm_addresses.proofs.Trees.WrittenTrees.{value_written}
 use Rattle.vm_addresses.proofs.address_allocator.AddressAllocator.to_root_value.Goals as goal
 
 pub returns-clause-answer : goal.returns-clause-answer

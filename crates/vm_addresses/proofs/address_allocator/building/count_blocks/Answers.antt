@@ -5,8 +5,8 @@ use Rattle.vm_addresses.proofs.address_allocator.building.count_blocks.Goals as 
 pub overflow_add-left : goal.overflow_add-left
 overflow_add-left c = omega (
   arith,
-  c.loop-index.invariant.left,
-  count_dropped c.args.held.now c.loop-index.index,
+  c.loop-range.invariant.left,
+  count_dropped c.args.held.now c.loop-range.range-index,
   c.start-then-next-start.ensures.value,
   c.start-then-next-start.type_inv,
 )

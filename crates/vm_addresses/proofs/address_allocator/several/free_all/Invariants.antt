@@ -1,6 +1,6 @@
 use Rattle.std.specs.Prelude.{List, length}
 use Rattle.vm_ranges.specs.Request.{Request}
-use Rattle.vm_addresses.specs.Address.{AddressState, IsAddressState}
+use Rattle.vm_ranges.specs.Address.{AddressState, IsAddressState}
 use Rattle.vm_addresses.specs.Allocator.{state_of}
 use Rattle.vm_addresses.specs.Several.{AllocatesEach}
 use Rattle.vm_addresses.proofs.address_allocator.several.free_all.Given as goal

@@ -1,10 +1,9 @@
 use Rattle.std.proofs.Common.{◌≡◌, ℕ, List, reverse, ap, sym, ◌∙◌, subst}
 use Rattle.std.proofs.lemmas.List.{reverse-reverse}
-use Rattle.std.specs.BTreeSet.{BTreeSet}
+use Rattle.std.specs.BTreeSet.{BTreeSet, IsOrdered}
 use Rattle.vm_chunks.specs.declared.id_set.Run.{Run}
 use Rattle.vm_chunks.specs.Runs.{RUNS_END, ids_of_runs}
 use Rattle.std.specs.Ordering.{nat_cmp}
-use Rattle.std.specs.BTreeSet.{IsOrdered}
 use Rattle.vm_chunks.proofs.RunOrder.{ids_sorted}
 use Rattle.vm_chunks.proofs.RunsAgain.{same_runs_by_ids}
 use Rattle.vm_chunks.proofs.id_set.IdSet.equals.Goals as goal

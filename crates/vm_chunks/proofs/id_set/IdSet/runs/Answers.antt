@@ -1,10 +1,9 @@
 use Rattle.std.proofs.Common.{List, ℕ, ◌≤◌, ap, ◌∙◌, subst, sym}
 use Rattle.std.specs.List.{All, flat_map}
-use Rattle.std.specs.BTreeSet.{BTreeSet}
+use Rattle.std.specs.BTreeSet.{BTreeSet, IsOrdered}
 use Rattle.vm_chunks.specs.Runs.{RUNS_END, ids_of_run}
 use Rattle.vm_chunks.specs.declared.id_set.Run.{Run}
 use Rattle.std.specs.Ordering.{nat_cmp}
-use Rattle.std.specs.BTreeSet.{IsOrdered}
 use Rattle.vm_chunks.proofs.RunOrder.{ids_sorted}
 use Rattle.vm_chunks.proofs.RunsAgain.{ids_in_turn, all_filled}
 use Rattle.vm_chunks.proofs.id_set.IdSet.runs.Goals as goal

@@ -23,6 +23,21 @@ move_to-requires-clause-new c =
     rw (c.start.ensures.value, start)
     (moved_start old c.self.invariant c.args.range.now c.in_ok-begun.begun.range c.args.request _ c.in_ok-begun.ensures.answer.0)
 
+-- The map after a move that is cancelled is the one before it.
+cancelled : (c : goal.After-into) →
+    map_of (state_of c.cancel_move.new.self) c.move_to.new.self ≡ map_of (state_of c.self.inside.addresses) c.self.inside.values
+cancelled c = cancelled_state (map_of (state_of c.self.inside.addresses) c.self.inside.values) _ _
+    (c.cancel_move.ensures.same _ _ c.in_ok-begun.ensures.answer.1) c.in-Err.ensures.err
+
+pub invariant_of-self-in-Err : goal.invariant_of-self-in-Err
+invariant_of-self-in-Err c = subst IsMapState (sym (cancelled c)) c.self.invariant
+
+pub returns-in-Err-clause-unchanged : goal.returns-in-Err-clause-unchanged
+returns-in-Err-clause-unchanged c = rw (← c.self.view_is) (cancelled c)
+
+pub returns-in-Err-clause-state : goal.returns-in-Err-clause-state
+returns-in-Err-clause-state c = subst IsMapState (sym (cancelled c)) c.self.invariant
+
 pub returns-in-Err-clause-answer : goal.returns-in-Err-clause-answer
 returns-in-Err-clause-answer c =
     let old : MapState = map_of (state_of c.self.inside.addresses) c.self.inside.values in
@@ -31,7 +46,7 @@ returns-in-Err-clause-answer c =
     rw (← c.self.view_is, is)
     (move_undone old _ c.args.range.now c.args.request c.in_ok-begun.begun.range _ c.in_ok-begun.ensures.answer.0
     (λ e. c.in-Err.ensures.start (c.start.ensures.value ∙ sym e ∙ sym start))
-    (cancelled_state old _ _ (c.cancel_move.ensures.same _ _ c.in_ok-begun.ensures.answer.1) c.in-Err.ensures.err))
+    (cancelled c))
 
 pub returns-clause-fits : goal.returns-clause-fits
 returns-clause-fits c =

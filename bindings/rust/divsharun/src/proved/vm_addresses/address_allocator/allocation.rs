@@ -3,12 +3,11 @@
 //! Allocates the range of a request.
 
 use super::AddressAllocator;
-use crate::proved::vm_ranges::{AllocPolicy, Constraint, Error, NodeState, RangeInclusive, Result};
+use crate::proved::vm_ranges::{
+    AllocPolicy, Constraint, Error, NodeState, RangeInclusive, Result, SPLIT_LIMIT,
+};
 use crate::proved::vm_tree::{End, Refusal, Search, Spare, Steps, Taken, Tree};
 use crate::rattle::Global;
-
-/// If this many ranges are allocated, no gap is split. So no tree gets too high.
-pub(in crate::proved::vm_addresses) const SPLIT_LIMIT: u64 = 6_293_134_512;
 
 impl AddressAllocator {
     /// Allocates like [`allocate_constraint`](Self::allocate_constraint), and also returns the number
@@ -19,8 +18,8 @@ impl AddressAllocator {
     /// window, the count is
     /// - at most h for `ExactMatch`.
     /// - at most 2k + 1 for `FirstMatch` and `LastMatch`.
-    /// - at most h(v + 2) for these two. Here v is the lesser of the two numbers of `allocate_counted`,
-    ///   of the parts of the gaps in the window.
+    /// - at most h(v + 2) for these two. Here v is the number of parts of gaps in the window that are long
+    ///   enough but misaligned.
     ///
     /// # Errors
     ///

@@ -49,7 +49,8 @@ impl AddressAllocator {
         space: RangeInclusive,
         held: &[RangeInclusive],
     ) -> core::result::Result<Self, ListError> {
-        let (count, left) = count_blocks(&space, held)?;
+        check_held(&space, held)?;
+        let (count, left) = count_blocks(&space, held);
         if count >= TOO_MANY_BLOCKS {
             return Err(Error::Overflow.into());
         }
@@ -63,10 +64,7 @@ impl AddressAllocator {
         space: RangeInclusive,
         held: &[RangeInclusive],
     ) -> core::result::Result<Self, AllocError> {
-        let Ok((count, left)) = count_blocks(&space, held) else {
-            // `held` can be held, so it has no error.
-            unreachable!()
-        };
+        let (count, left) = count_blocks(&space, held);
         build(alloc, space, held, count, left)
     }
 }
@@ -89,20 +87,29 @@ fn build(
     })
 }
 
-/// Returns the numbers of blocks and of free addresses of the space with these ranges allocated, or the
-/// error of the first range that cannot be allocated.
-fn count_blocks(
+/// Checks that these ranges can be allocated in the space. The error has the index of the first that cannot.
+fn check_held(
     space: &RangeInclusive,
     held: &[RangeInclusive],
-) -> core::result::Result<(u64, u64), ListError> {
+) -> core::result::Result<(), ListError> {
     let end = space.end();
     let mut next = space.start();
-    let (mut count, mut left) = (0, 0);
     for (index, range) in held.iter().enumerate() {
         if let Err(error) = check_next(next, end, range) {
             let index = Some(index);
             return Err(ListError { index, error });
         }
+        next = range.end() + 1;
+    }
+    Ok(())
+}
+
+/// Returns the numbers of blocks and of free addresses of the space with these ranges allocated.
+fn count_blocks(space: &RangeInclusive, held: &[RangeInclusive]) -> (u64, u64) {
+    let end = space.end();
+    let mut next = space.start();
+    let (mut count, mut left) = (0, 0);
+    for range in held {
         if next < range.start() {
             count += 1;
             left += range.start() - next;
@@ -114,7 +121,7 @@ fn count_blocks(
         count += 1;
         left += end - next + 1;
     }
-    Ok((count, left))
+    (count, left)
 }
 
 /// Checks that a range can be allocated if it must start at `next` or later, in a space that ends at

@@ -7,10 +7,11 @@
 //! - A range beside the gap that the moved range leaves is allocated first.
 //! - For a range in this gap only memory is allocated first.
 
-use super::allocation::SPLIT_LIMIT;
 use super::AddressAllocator;
 use crate::proved::vm_leaf::{highest_fit, lowest_fit};
-use crate::proved::vm_ranges::{AllocPolicy, Constraint, Error, RangeInclusive, Result};
+use crate::proved::vm_ranges::{
+    AllocPolicy, Constraint, Error, RangeInclusive, Result, SPLIT_LIMIT,
+};
 use crate::proved::vm_tree::Spare;
 use crate::rattle::Global;
 

@@ -1,6 +1,0 @@
-use Rattle.vm_addresses.specs.Values.NodesRead.{nothing_read}
-use Rattle.vm_addresses.proofs.SavedNodes.Stored.{starts}
-use Rattle.vm_addresses.proofs.saved.nodes.ReadNodes.new.Goals as goal
-
-pub invariant_of-result : goal.invariant_of-result
-invariant_of-result c = (nothing_read, starts _ _ c.new.ensures.items c.new-2.ensures.items)

@@ -1,6 +1,0 @@
-use Rattle.std.proofs.Common.{◌-◌}
-use Rattle.vm_addresses.specs.Values.KeyValues.{MAX_NESTING_REPAIRED}
-use Rattle.vm_addresses.proofs.saved.tree.+read_span.Given as goal
-
-abbrev pub decreases-read_span : goal.decreases-read_span
-decreases-read_span l = MAX_NESTING_REPAIRED - l.depth

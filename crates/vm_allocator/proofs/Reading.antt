@@ -1,3 +1,0 @@
-pub mod ReadAgain
-pub mod Restored
-pub mod NestedValues

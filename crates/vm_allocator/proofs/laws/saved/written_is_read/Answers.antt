@@ -1,5 +1,0 @@
-use Rattle.vm_allocator.proofs.Reading.ReadAgain.{ids_again}
-use Rattle.vm_allocator.proofs.laws.saved.written_is_read.Goals as goal
-
-pub returns-clause-id_allocators : goal.returns-clause-id_allocators
-returns-clause-id_allocators c = ids_again

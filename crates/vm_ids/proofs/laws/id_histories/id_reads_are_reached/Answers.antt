@@ -1,5 +1,0 @@
-use Rattle.vm_ids.proofs.Ids.IdEnds.{read_is_reached}
-use Rattle.vm_ids.proofs.laws.id_histories.id_reads_are_reached.Goals as goal
-
-pub returns : goal.returns
-returns c = read_is_reached

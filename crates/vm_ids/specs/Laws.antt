@@ -1,4 +1,0 @@
-pub mod IdLaws
-pub mod IdRequestLaws
-pub mod IdHistoryLaws
-pub mod IdPartLaws

@@ -1,0 +1,15 @@
+pub mod MadeOrNot
+pub mod MisalignedGaps
+pub mod SimpleBounds
+pub mod AddressEnds
+pub mod AlongHistories
+pub mod HistoryResults
+pub mod MovedRanges
+pub mod Releases
+pub mod SameCalls
+pub mod SeveralOnce
+pub mod Capacity
+pub mod HeldFaults
+pub mod HeldOnes
+pub mod LongestGap
+pub mod SeveralParts

@@ -1,0 +1,3 @@
+pub mod AlongIdHistories
+pub mod IdEnds
+pub mod IdsInTurn

@@ -1,0 +1,4 @@
+pub mod AddressProofs
+pub mod IdProofs
+pub mod ValueProofs
+pub mod Callers

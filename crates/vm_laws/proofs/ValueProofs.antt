@@ -1,0 +1,4 @@
+pub mod Restored
+pub mod NestedValues
+pub mod ReadAgain
+pub mod SavedTrees

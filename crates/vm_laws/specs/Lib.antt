@@ -1,0 +1,16 @@
+pub mod AddressLaws
+pub mod CountLaws
+pub mod GapLaws
+pub mod HistoryLaws
+pub mod MemoryLaws
+pub mod MoveLaws
+pub mod QueryLaws
+pub mod SavedLaws
+pub mod SeveralLaws
+pub mod WindowLaws
+pub mod IdHistoryLaws
+pub mod IdLaws
+pub mod IdPartLaws
+pub mod IdRequestLaws
+pub mod RestoredLaws
+pub mod ValueLaws

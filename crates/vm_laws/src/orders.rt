@@ -1,0 +1,13 @@
+//! Laws of the orders of allocators and of trees.
+//!
+//! Each law is a promise.
+ghost use Rattle.vm_addresses.specs.Comparison.{layout_cmp, state_cmp, IsOrder, OrderAgreesWithEquality};
+
+/// States that the orders of allocators and of trees are total and transitive.
+///
+/// The order of allocators returns `Equal` if and only if `==` returns `true`.
+fn orders_are_orders()
+    ensures allocators { IsOrder state_cmp }
+    ensures trees { IsOrder layout_cmp }
+    ensures agrees { OrderAgreesWithEquality }
+{}

@@ -1,0 +1,4 @@
+pub mod Gaps
+pub mod OneList
+pub mod BlockStates
+pub mod Tilings

@@ -1,0 +1,2 @@
+pub mod SavedNodes
+pub mod Reading

@@ -1,0 +1,12 @@
+pub mod BlockStarts
+pub mod Heights
+pub mod KeyLists
+pub mod Meanings
+pub mod Roots
+pub mod SavedTreeLaws
+pub mod Spans
+pub mod Stored
+pub mod ValueLaws
+pub mod ValueTrees
+pub mod WholeTrees
+pub mod Written

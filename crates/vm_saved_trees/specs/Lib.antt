@@ -1,0 +1,9 @@
+pub mod NodeTree
+pub mod TreeValues
+pub mod KeyValues
+pub mod SavedTrees
+pub mod NodesRead
+pub mod WrittenTrees
+pub mod NodeChecks
+pub mod Spans
+pub mod ValueNodes
