@@ -13,7 +13,7 @@ use Rattle.vm_leaf.specs.declared.leaf.Leaf.TheInside.{Inside}
 use Rattle.vm_leaf.specs.GapMasks.{AreGapsFrom}
 use Rattle.vm_leaf.proofs.Fields.{length_of, state_is}
 use Rattle.vm_leaf.proofs.GapMasks.{gaps_from}
-use Rattle.vm_leaf.specs.declared.leaf.TheConstants.{CAPACITY}
+use Rattle.vm_leaf.specs.declared.leaf.TheConstants.{CAPACITY, CUTS}
 
 -- No state is both free and held.
 not_both : (s : NodeState) → s ≡ Free → s ≡ Allocated → ⊥
@@ -31,7 +31,7 @@ same_finds : (st su : ℕ → NodeState) (upto : ℕ) → ((k : ℕ) → k < upt
 same_finds st su upto e None h = λ k l. e k l ∙ h k l
 same_finds st su upto e (Some i) h = (h.0, e i h.0 ∙ h.1, λ k l u. e k u ∙ h.2 k l u)
 
-module _ (a : Inside) (bs : List Block) (v : IsInside a) (e : length a.starts ≡ CAPACITY) (view : encoded_blocks a ≡ bs) where
+module _ (a : Inside) (bs : List Block) (v : IsInside a) (e : length a.cuts ≡ CUTS) (view : encoded_blocks a ≡ bs) where
   -- The last gap by the mask is the last gap by the blocks.
   pub gap_last : (upto : ℕ) (r : Option ℕ) → upto ≤ length bs → FindsBefore (states_in a.held) upto r →
       FindsBefore (λ k. (nth bs k).state) upto r

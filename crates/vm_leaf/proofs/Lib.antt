@@ -1,4 +1,4 @@
-pub mod Tilings
+pub mod Cuts
 pub mod Fields
 pub mod Tiles
 pub mod Starts

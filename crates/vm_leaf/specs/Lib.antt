@@ -2,6 +2,7 @@ pub mod Block
 pub mod BlockOrder
 pub mod BlockStarts
 pub mod Blocks
+pub mod Cuts
 pub mod Fit
 pub mod GapMasks
 pub mod Leaf

@@ -1,4 +1,4 @@
-//! A leaf: up to `CAPACITY` consecutive blocks, with their first addresses in one array.
+//! A leaf: up to `CAPACITY` consecutive blocks, with the cuts between them in one array.
 ghost use Rattle.std.specs.Prelude.{◌≡◌, ◌≢◌, ℕ, ◌+◌, ◌-◌, ◌*◌, ◌%◌, ◌^◌, ◌<◌, ◌≤◌, [], ◌∷◌, ◌++◌, length, take, drop, MatchBool};
 ghost use Rattle.vm_ranges.specs.declared.state.NodeState.TheVariants.{Free, Allocated};
 ghost use Rattle.vm_ranges.specs.Range.{IsIn};
@@ -6,6 +6,7 @@ ghost use Rattle.vm_leaf.specs.States.{states_in, moved, WithHeld, WithFree};
 ghost use Rattle.vm_leaf.specs.Block.{held_block};
 ghost use Rattle.vm_leaf.specs.Rest.{IsRest, added_by};
 ghost use Rattle.vm_leaf.specs.Blocks.{nth, start_of, end_of, with_parts, upper_held, lower_held, middle_held, gap_over, parts, freed_at, IsJoined, IsLeaf};
+ghost use Rattle.vm_leaf.specs.Cuts.{start_after, ArePads};
 ghost use Rattle.vm_leaf.specs.Raises.{Raises};
 ghost use Rattle.vm_leaf.specs.Starts.{IsOneIfUpTo, IsNarrowed};
 
@@ -28,6 +29,9 @@ use vm_ranges::{NodeState, RangeInclusive};
 /// The maximum number of blocks of a leaf.
 pub const CAPACITY: usize = 32;
 
+/// The number of cuts of a leaf with `CAPACITY` blocks.
+const CUTS: usize = 33;
+
 /// The minimum number of blocks of a leaf, unless the leaf is the whole tree.
 pub const MIN_BLOCKS: usize = 12;
 
@@ -37,14 +41,13 @@ pub const MIN_BLOCKS: usize = 12;
 #[derive(Debug, Drop)]
 #[repr(C)]
 pub struct Leaf {
-    /// The last address of the last block.
-    end: u64,
     /// The states: bit `i` is 1 if block `i` is allocated. The bits at or above `len` are 0.
     held: u64,
     /// The number of blocks.
     len: usize,
-    /// The first addresses of the blocks, in ascending order. Only the first `len` are used.
-    starts: [u64; CAPACITY],
+    /// The address before the first block, then the last address of each block. The first is `u64::MAX` if the
+    /// first block starts at 0. The entries behind the last block are `u64::MAX`.
+    cuts: [u64; CUTS],
 }
 
 /// A fit in a leaf: the index of a gap, and the first address of a range in it.
@@ -118,51 +121,87 @@ fn with_moved(held: u64, keep: usize, from: usize, to: usize) -> u64
     ((held >> from) << to) + held % (1 << keep)
 }
 
-/// Inserts `first` at the index `at` of the first `len` numbers.
+/// Returns the first address after a cut.
 #[inline(always)]
-#[tactic(auto, using(crate::proofs::Arrays::inserted_one))]
-fn insert_one(starts: &mut [u64; CAPACITY], len: usize, at: usize, first: u64)
-    requires within { at ≤ len }
-    requires room { len + 1 ≤ CAPACITY }
-    ensures { take (len + 1) starts.new ≡ take at starts.old ++ (first ∷ drop at (take len starts.old)) }
+#[tactic(auto, using(crate::proofs::Cuts::after))]
+fn after_cut(cut: u64) -> u64
+    ensures { result ≡ start_after cut }
 {
-    starts.copy_within(at..len, at + 1);
-    starts[at] = first;
+    cut.wrapping_add(1)
 }
 
-/// Inserts `first` and `second` at the index `at` of the first `len` numbers.
+/// Returns the cut before a block that starts at `start`.
 #[inline(always)]
-#[tactic(auto, using(crate::proofs::Arrays::inserted_two))]
-fn insert_two(starts: &mut [u64; CAPACITY], len: usize, at: usize, first: u64, second: u64)
-    requires within { at ≤ len }
-    requires room { len + 2 ≤ CAPACITY }
-    ensures { take (len + 2) starts.new ≡ take at starts.old ++ (first ∷ (second ∷ drop at (take len starts.old))) }
+#[tactic(auto, using(crate::proofs::Cuts::before))]
+fn cut_before(start: u64) -> u64
+    ensures { start_after result ≡ start }
 {
-    starts.copy_within(at..len, at + 2);
-    starts[at] = first;
-    starts[at + 1] = second;
+    start.wrapping_sub(1)
 }
 
-/// Removes the numbers with the indices `to..from` from the first `len` numbers.
+/// Inserts `first` at the index `at` of the first `len` cuts.
 #[inline(always)]
-#[tactic(auto, using(crate::proofs::Arrays::removed))]
-fn remove_between(starts: &mut [u64; CAPACITY], len: usize, to: usize, from: usize)
+#[tactic(auto, using(crate::proofs::Arrays::inserted_one, crate::proofs::Arrays::pads_one))]
+fn insert_one(cuts: &mut [u64; CUTS], len: usize, at: usize, first: u64)
+    requires within { at ≤ len }
+    requires room { len + 1 ≤ CUTS }
+    ensures cuts { take (len + 1) cuts.new ≡ take at cuts.old ++ (first ∷ drop at (take len cuts.old)) }
+    ensures pads { ArePads cuts.old len → ArePads cuts.new (len + 1) }
+{
+    cuts.copy_within(at..len, at + 1);
+    cuts[at] = first;
+}
+
+/// Inserts `first` and `second` at the index `at` of the first `len` cuts.
+#[inline(always)]
+#[tactic(auto, using(crate::proofs::Arrays::inserted_two, crate::proofs::Arrays::pads_two))]
+fn insert_two(cuts: &mut [u64; CUTS], len: usize, at: usize, first: u64, second: u64)
+    requires within { at ≤ len }
+    requires room { len + 2 ≤ CUTS }
+    ensures cuts { take (len + 2) cuts.new ≡ take at cuts.old ++ (first ∷ (second ∷ drop at (take len cuts.old))) }
+    ensures pads { ArePads cuts.old len → ArePads cuts.new (len + 2) }
+{
+    cuts.copy_within(at..len, at + 2);
+    cuts[at] = first;
+    cuts[at + 1] = second;
+}
+
+/// Keeps the cuts below the index `at`, and writes pads to the indices `at..len`.
+#[inline(always)]
+#[tactic(auto, using(crate::proofs::Arrays::cleared))]
+fn clear(cuts: &mut [u64; CUTS], len: usize, at: usize)
+    requires within { at ≤ len }
+    requires fits { len ≤ CUTS }
+    ensures cuts { take at cuts.new ≡ take at cuts.old }
+    ensures pads { ArePads cuts.old len → ArePads cuts.new at }
+{
+    cuts[at..len].fill(u64::MAX);
+}
+
+/// Removes the cuts with the indices `to..from` from the first `len` cuts.
+#[inline(always)]
+#[tactic(auto, using(crate::proofs::Arrays::removed, crate::proofs::Arrays::pads_removed))]
+fn remove_between(cuts: &mut [u64; CUTS], len: usize, to: usize, from: usize)
     requires order { to ≤ from }
     requires within { from ≤ len }
-    requires fits { len ≤ CAPACITY }
-    ensures { take (len - from + to) starts.new ≡ take to starts.old ++ drop from (take len starts.old) }
+    requires fits { len ≤ CUTS }
+    ensures cuts { take (len - from + to) cuts.new ≡ take to cuts.old ++ drop from (take len cuts.old) }
+    ensures pads { ArePads cuts.old len → ArePads cuts.new (len - from + to) }
 {
-    starts.copy_within(from..len, to);
+    cuts.copy_within(from..len, to);
+    clear(cuts, len, len - from + to);
 }
 
-/// Writes the first `n` numbers of `other` to the indices `at..at + n`.
+/// Writes `n` cuts of `other`, without the first one, to the indices `at..at + n`.
 #[inline(always)]
-#[tactic(auto, using(crate::proofs::Arrays::copied))]
-fn copy_in(starts: &mut [u64; CAPACITY], at: usize, other: &[u64; CAPACITY], n: usize)
-    requires { at + n ≤ CAPACITY }
-    ensures { take (at + n) starts.new ≡ take at starts.old ++ take n other.now }
+#[tactic(auto, using(crate::proofs::Arrays::copied, crate::proofs::Arrays::pads_copied))]
+fn copy_in(cuts: &mut [u64; CUTS], at: usize, other: &[u64; CUTS], n: usize)
+    requires fits { at + n ≤ CUTS }
+    requires some { 0 < at }
+    ensures cuts { take (at + n) cuts.new ≡ take at cuts.old ++ take n (drop 1 other.now) }
+    ensures pads { ArePads cuts.old at → ArePads cuts.new (at + n) }
 {
-    starts[at..at + n].copy_from_slice(&other[..n]);
+    cuts[at..at + n].copy_from_slice(&other[1..n + 1]);
 }
 
 /// Returns the mask of `len` blocks with the states `held`, followed by `_more` blocks with the states `other`.
@@ -193,18 +232,14 @@ impl Leaf {
         ensures value { result ≡ block ∷ [] }
         ensures leaf { IsLeaf result }
     {
-        let mut starts = [0; CAPACITY];
-        starts[0] = block.key.start();
+        let mut cuts = [u64::MAX; CUTS];
+        cuts[0] = cut_before(block.key.start());
+        cuts[1] = block.key.end();
         let held = match block.state {
             NodeState::Free => 0,
             NodeState::Allocated => 1,
         };
-        Leaf {
-            starts,
-            end: block.key.end(),
-            held,
-            len: 1,
-        }
+        Leaf { held, len: 1, cuts }
     }
 
     /// Returns the number of blocks.
@@ -226,7 +261,7 @@ impl Leaf {
     {
         // Proof: a field is read before the index is checked.
         let _len = self.len;
-        self.starts[i]
+        after_cut(self.cuts[i])
     }
 
     /// Returns the last address of block `i`.
@@ -236,12 +271,9 @@ impl Leaf {
         requires { i < length self.now }
         ensures { result ≡ (nth self.now i).key.end }
     {
-        let len = self.len;
-        if i + 1 < len {
-            self.starts[i + 1] - 1
-        } else {
-            self.end
-        }
+        // Proof: a field is read before the index is checked.
+        let _len = self.len;
+        self.cuts[i + 1]
     }
 
     /// Returns the state of block `i`.
@@ -269,34 +301,29 @@ impl Leaf {
     #[inline(always)]
     #[tactic(auto, using(crate::proofs::Fields::length_of))]
     fn one_if_up_to(&self, i: usize, address: u64) -> usize
-        requires { i < CAPACITY }
+        requires inner { (0 < i) × (i ≤ CAPACITY) }
+        requires upto { address ≤ end_of self.now }
         ensures { IsOneIfUpTo self.now i address result }
     {
-        let len = self.len;
-        let first = self.starts[i];
-        if (i < len) & (first <= address) { 1 } else { 0 }
+        // Proof: a field is read before the index is checked.
+        let _len = self.len;
+        if self.cuts[i] < address { 1 } else { 0 }
     }
 
-    /// Returns `low + half` if that block exists and starts at or below `address`, otherwise `low`.
+    /// Returns `low + 1` if that block exists and starts at or below `address`, otherwise `low`.
     ///
-    /// The block with the address must be one of the `2 * half` blocks starting at `low`.
+    /// The block with the address must be one of these two.
     #[inline(always)]
-    #[tactic(auto, using(crate::proofs::Fields::length_of))]
-    fn narrow_to_half(&self, low: usize, half: usize, address: u64) -> usize
+    fn narrow_to_one(&self, low: usize, address: u64) -> usize
         requires within { low < length self.now }
         requires from { (nth self.now low).key.start ≤ address }
-        requires fits { low + half < CAPACITY }
-        requires upto { low + 2 * half < length self.now → address < (nth self.now (low + 2 * half)).key.start }
-        ensures { IsNarrowed self.now low half address result }
+        requires end { address ≤ end_of self.now }
+        requires upto { low + 2 < length self.now → address < (nth self.now (low + 2)).key.start }
+        ensures { IsNarrowed self.now low 1 address result }
     {
-        let len = self.len;
-        let middle = low + half;
-        let first = self.starts[middle];
-        if (middle < len) & (first <= address) {
-            middle
-        } else {
-            low
-        }
+        // Proof: `len` gives the facts of a leaf.
+        let _len = self.len();
+        low + self.one_if_up_to(low + 1, address)
     }
 
     /// Returns the last of the indices `low`, `low + step`, `low + 2 * step` and `low + 3 * step` whose
@@ -307,7 +334,8 @@ impl Leaf {
     fn narrow_to_quarter(&self, low: usize, step: usize, address: u64) -> usize
         requires within { low < length self.now }
         requires from { (nth self.now low).key.start ≤ address }
-        requires fits { low + 3 * step < CAPACITY }
+        requires end { address ≤ end_of self.now }
+        requires fits { (0 < step) × (low + 3 * step ≤ CAPACITY) }
         requires upto { low + 4 * step < length self.now → address < (nth self.now (low + 4 * step)).key.start }
         ensures { IsNarrowed self.now low step address result }
     {
@@ -329,15 +357,11 @@ impl Leaf {
         ensures within { result < length self.now }
         ensures found { IsIn (nth self.now result).key address }
     {
-        if self.len() > 16 {
-            let low = self.narrow_to_quarter(0, 8, address);
-            let low = self.narrow_to_quarter(low, 2, address);
-            return self.narrow_to_half(low, 1, address);
-        }
-        let low = self.narrow_to_half(0, 8, address);
-        let low = self.narrow_to_half(low, 4, address);
-        let low = self.narrow_to_half(low, 2, address);
-        self.narrow_to_half(low, 1, address)
+        // Proof: `len` gives the facts of a leaf.
+        let _len = self.len();
+        let low = self.narrow_to_quarter(0, 8, address);
+        let low = self.narrow_to_quarter(low, 2, address);
+        self.narrow_to_one(low, address)
     }
 
     /// Allocates the whole gap `i`.
@@ -362,7 +386,7 @@ impl Leaf {
         ensures { self.new ≡ with_parts self.old i 1 (upper_held (nth self.old i).key first) }
     {
         let len = self.len;
-        insert_one(&mut self.starts, len, i + 1, first);
+        insert_one(&mut self.cuts, len + 1, i + 1, first - 1);
         self.held = with_held(with_moved(self.held, i + 1, i + 1, i + 2), i + 1);
         self.len = len + 1;
     }
@@ -379,7 +403,7 @@ impl Leaf {
         ensures { self.new ≡ with_parts self.old i 1 (lower_held (nth self.old i).key next) }
     {
         let len = self.len;
-        insert_one(&mut self.starts, len, i + 1, next);
+        insert_one(&mut self.cuts, len + 1, i + 1, next - 1);
         self.held = with_held(with_moved(self.held, i + 1, i + 1, i + 2), i);
         self.len = len + 1;
     }
@@ -398,7 +422,7 @@ impl Leaf {
         ensures { self.new ≡ with_parts self.old i 1 (middle_held (nth self.old i).key first next) }
     {
         let len = self.len;
-        insert_two(&mut self.starts, len, i + 1, first, next);
+        insert_two(&mut self.cuts, len + 1, i + 1, first - 1, next - 1);
         self.held = with_held(with_moved(self.held, i + 1, i + 1, i + 3), i + 1);
         self.len = len + 2;
     }
@@ -429,7 +453,7 @@ impl Leaf {
             return self.set_free(i);
         }
         let len = self.len;
-        remove_between(&mut self.starts, len, i + 1, i + n);
+        remove_between(&mut self.cuts, len + 1, i + 1, i + n);
         self.held = with_moved(self.held, i, i + n, i + 1);
         self.len = len - n + 1;
     }
@@ -526,15 +550,14 @@ impl Leaf {
         ensures high { result ≡ drop at self.old }
     {
         let len = self.len;
-        let mut starts = self.starts;
-        remove_between(&mut starts, len, 0, at);
+        let mut cuts = self.cuts;
+        remove_between(&mut cuts, len + 1, 0, at);
         let upper = Leaf {
-            starts,
-            end: self.end,
             held: self.held >> at,
             len: len - at,
+            cuts,
         };
-        self.end = self.starts[at] - 1;
+        clear(&mut self.cuts, len + 1, at + 1);
         self.held = low_part(self.held, at);
         self.len = at;
         upper
@@ -547,9 +570,8 @@ impl Leaf {
         ensures { self.new ≡ self.old ++ other.now }
     {
         let (len, more) = (self.len, other.len);
-        copy_in(&mut self.starts, len, &other.starts, more);
+        copy_in(&mut self.cuts, len + 1, &other.cuts, more);
         self.held = with_appended(self.held, len, other.held, more);
-        self.end = other.end;
         self.len = len + more;
     }
 }
