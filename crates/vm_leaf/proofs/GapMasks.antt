@@ -142,20 +142,3 @@ module _ (bs : List Block) (i j m n : ℕ) (h : AreGapsFrom i bs m) (low : IsLow
 -- A mask of 0 has no gap left.
 pub no_gap_left : (bs : List Block) (i m : ℕ) → AreGapsFrom i bs m → m ≡ 0 → (k : ℕ) → i ≤ k → k < length bs → (nth bs k).state ≡ Allocated
 no_gap_left bs i m h z k f l = h.held k f l (bit_at_above m 0 k (omega (arith, z)) (omega arith))
-
--- The gaps before an index.
-pub gaps_before : (bs : List Block) (m n at : ℕ) → AreGapsFrom 0 bs m → at ≤ length bs → n ≡ m % 2 ^ at → AreGapsFrom 0 (take at bs) n
-gaps_before bs m n at h l e =
-    let len : length (take at bs) ≡ at = length-take-le at bs l in
-    let same : (k : ℕ) → k < at → bit_at n k ≡ bit_at m k = λ k u. ap (λ (v : ℕ). bit_at v k) e ∙ bit_of_mod m at k u in
-    let fits : n < 2 ^ at = omega (arith, e, mod-lt m (pow_pos at)) in
-    record {
-      fits = rw len fits;
-      below = λ k u. absurd (omega arith);
-      free = λ k q. elim (cases_lt k at) [
-        | inl u ↦ ap (λ (b : Block). b.state) (get_or-take at bs k blank u) ∙ h.free k (sym (same k u) ∙ q)
-        | inr u ↦ absurd (omega (arith, bit_at_above n at k fits u))
-      ];
-      held = λ k z u q. let v : k < at = omega arith in
-          ap (λ (b : Block). b.state) (get_or-take at bs k blank v) ∙ h.held k z (omega arith) (sym (same k v) ∙ q);
-    }

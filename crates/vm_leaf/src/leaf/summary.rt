@@ -5,7 +5,7 @@ ghost use Rattle.vm_leaf.specs.Blocks.{longest_gap};
 ghost use Rattle.vm_leaf.specs.Multiples.{alignment_count, most_alignments, IsBitLength};
 
 use super::gaps::{lowest_one, without_lowest};
-use super::{Leaf, low_part};
+use super::Leaf;
 use vm_ranges::RangeInclusive;
 
 /// The summary of some gaps. Both fields are 0 if there is no gap.
@@ -62,19 +62,14 @@ impl Leaf {
         ensures longest { result.longest ≡ longest_gap self.now }
         ensures alignments { result.alignments ≡ most_alignments self.now }
     {
-        let last = self.len() - 1;
+        // Proof: `len` gives the facts of a leaf.
+        let _len = self.len();
         let (mut longest, mut reached) = (0, 0);
-        // The last block ends at the end of the leaf, and each other one before the next start.
-        let mut gaps = low_part(self.gaps(), last);
+        let mut gaps = self.gaps();
         while gaps != 0 {
             let i = lowest_one(gaps);
             gaps = without_lowest(gaps);
-            let (next, start) = (self.start_at(i + 1), self.start_at(i));
-            longest = longest.max(next - start);
-            reached |= reach(start, next - 1);
-        }
-        if self.is_free_at(last) {
-            let (start, end) = (self.start_at(last), self.end_at(last));
+            let (start, end) = (self.start_at(i), self.end_at(i));
             longest = longest.max(1 + (end - start));
             reached |= reach(start, end);
         }
