@@ -1,5 +1,5 @@
 -- The lowest 1 of a mask, and the mask without it.
-use Rattle.std.proofs.Common.{◌≡◌, ℕ, ◌+◌, ◌-◌, ◌*◌, ◌/◌, ◌%◌, ◌^◌, ◌<◌, ◌≤◌, bit_and, w64, refl, ap, ◌∙◌, sym, arith, add-one, inl, inr, List, length, length-take-le, take}
+use Rattle.std.proofs.Common.{◌≡◌, ℕ, ◌+◌, ◌-◌, ◌*◌, ◌/◌, ◌%◌, ◌^◌, ◌<◌, ◌≤◌, bit_and, w32, refl, ap, ◌∙◌, sym, arith, add-one, inl, inr, List, length, length-take-le, take}
 use Rattle.std.specs.Int.{bit_at, trailing_zeros}
 use Rattle.std.proofs.lemmas.Bool.{cases_lt}
 use Rattle.std.proofs.lemmas.Nat.{and_le_r, pow_pos}
@@ -27,8 +27,8 @@ use Rattle.vm_leaf.proofs.GapBits.{opposite, held_if}
 use Rattle.vm_leaf.specs.declared.leaf.TheConstants.{CAPACITY}
 
 -- The number of trailing zeros is the index of the lowest 1.
-pub lowest_of : (m : ℕ) → 0 < m → m < 2 ^ 64 → IsLowestOne m (trailing_zeros w64 m)
-lowest_of m z u = let h = bit_at-trailing_zeros w64 m z u in record { one = h.1; below = h.2 }
+pub lowest_of : (m : ℕ) → 0 < m → m < 2 ^ 32 → IsLowestOne m (trailing_zeros w32 m)
+lowest_of m z u = let h = bit_at-trailing_zeros w32 m z u in record { one = h.1; below = h.2 }
 
 -- The bits of m up to its lowest 1 are those of a power of two.
 module _ (m i : ℕ) (h : IsLowestOne m i) where

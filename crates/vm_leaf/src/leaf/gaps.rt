@@ -28,7 +28,7 @@ fn gap_before(held: u64, upto: usize) -> Option<usize>
 /// Returns the index of the lowest 1 bit of a mask that is not 0.
 #[inline(always)]
 #[tactic(auto, using(crate::proofs::GapMasks::lowest_ones))]
-pub(super) fn lowest_one(mask: u64) -> usize
+pub(super) fn lowest_one(mask: u32) -> usize
     requires { 0 < mask }
     ensures { IsLowestOne mask result }
 {
@@ -38,7 +38,7 @@ pub(super) fn lowest_one(mask: u64) -> usize
 /// Returns a mask that is not 0, without its lowest 1 bit.
 #[inline(always)]
 #[tactic(auto, using(crate::proofs::GapMasks::lowest_ones))]
-pub(super) fn without_lowest(mask: u64) -> u64
+pub(super) fn without_lowest(mask: u32) -> u32
     requires { 0 < mask }
     ensures less { result < mask }
     ensures above { (i : ℕ) → IsLowestOne mask i → IsMaskAbove i mask result }
@@ -50,10 +50,10 @@ impl Leaf {
     /// Returns a mask: bit `i` is 1 if block `i` is a gap.
     #[inline(always)]
     #[tactic(auto, using(crate::proofs::Fields::length_of))]
-    pub(super) fn gaps(&self) -> u64
+    pub(super) fn gaps(&self) -> u32
         ensures { AreGapsFrom 0 self.now result }
     {
-        low_part(!self.held, self.len)
+        low_part(!self.held, self.len) as u32
     }
 
     /// Returns the range of block `i`, which must exist.
