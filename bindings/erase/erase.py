@@ -54,10 +54,11 @@ ASSOCIATED = {
 }
 # Methods of types of other crates. Each was compared with the method of Rust.
 METHODS = set("""and_then as_array as_object as_slice as_str as_u64 capacity checked_add checked_mul checked_sub clone cmp
-    contains copy_from_slice copy_within enumerate extend_from_slice first flush get ilog2 insert into
+    contains copy_from_slice copy_within enumerate extend_from_slice fill first flush get ilog2 insert into
     is_ascii_digit is_empty is_err is_none is_null is_ok is_power_of_two is_some iter last len max min next
     next_back ok ok_or partition_point pop pop_first position push range read remove reserve rotate_left saturating_add
-    saturating_sub split_at split_first split_last take trailing_zeros truncate unwrap write_all""".split())
+    saturating_sub split_at split_first split_last take trailing_zeros truncate unwrap
+    wrapping_add wrapping_sub write_all""".split())
 MACROS = {"json", "matches", "unreachable"}
 DERIVES = {"Clone", "Copy", "Debug", "Default", "Drop", "Eq", "Error", "Hash", "Ord", "PartialEq", "PartialOrd"}
 TRAITS = {"DoubleEndedIterator", "Eq", "ExactSizeIterator", "From", "Iterator", "Ord", "PartialEq", "PartialOrd"}

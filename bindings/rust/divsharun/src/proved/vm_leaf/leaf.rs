@@ -1,6 +1,6 @@
 // Written by bindings/erase from crates/vm_leaf/src/leaf.rt: do not edit.
 
-//! A leaf: up to `CAPACITY` consecutive blocks, with their first addresses in one array.
+//! A leaf: up to `CAPACITY` consecutive blocks, with the cuts between them in one array.
 
 mod ends;
 mod fits;
@@ -20,6 +20,9 @@ use crate::proved::vm_ranges::{NodeState, RangeInclusive};
 /// The maximum number of blocks of a leaf.
 pub(in crate::proved) const CAPACITY: usize = 32;
 
+/// The number of cuts of a leaf with `CAPACITY` blocks.
+const CUTS: usize = 33;
+
 /// The minimum number of blocks of a leaf, unless the leaf is the whole tree.
 pub(in crate::proved) const MIN_BLOCKS: usize = 12;
 
@@ -29,14 +32,13 @@ pub(in crate::proved) const MIN_BLOCKS: usize = 12;
 #[derive(Debug)]
 #[repr(C)]
 pub(in crate::proved) struct Leaf {
-    /// The last address of the last block.
-    end: u64,
     /// The states: bit `i` is 1 if block `i` is allocated. The bits at or above `len` are 0.
     held: u64,
     /// The number of blocks.
     len: usize,
-    /// The first addresses of the blocks, in ascending order. Only the first `len` are used.
-    starts: [u64; CAPACITY],
+    /// The address before the first block, then the last address of each block. The first is `u64::MAX` if the
+    /// first block starts at 0. The entries behind the last block are `u64::MAX`.
+    cuts: [u64; CUTS],
 }
 
 /// A fit in a leaf: the index of a gap, and the first address of a range in it.
@@ -76,31 +78,50 @@ fn with_moved(held: u64, keep: usize, from: usize, to: usize) -> u64 {
     ((held >> from) << to) + held % (1 << keep)
 }
 
-/// Inserts `first` at the index `at` of the first `len` numbers.
+/// Returns the first address after a cut.
 #[inline(always)]
-fn insert_one(starts: &mut [u64; CAPACITY], len: usize, at: usize, first: u64) {
-    starts.copy_within(at..len, at + 1);
-    starts[at] = first;
+fn after_cut(cut: u64) -> u64 {
+    cut.wrapping_add(1)
 }
 
-/// Inserts `first` and `second` at the index `at` of the first `len` numbers.
+/// Returns the cut before a block that starts at `start`.
 #[inline(always)]
-fn insert_two(starts: &mut [u64; CAPACITY], len: usize, at: usize, first: u64, second: u64) {
-    starts.copy_within(at..len, at + 2);
-    starts[at] = first;
-    starts[at + 1] = second;
+fn cut_before(start: u64) -> u64 {
+    start.wrapping_sub(1)
 }
 
-/// Removes the numbers with the indices `to..from` from the first `len` numbers.
+/// Inserts `first` at the index `at` of the first `len` cuts.
 #[inline(always)]
-fn remove_between(starts: &mut [u64; CAPACITY], len: usize, to: usize, from: usize) {
-    starts.copy_within(from..len, to);
+fn insert_one(cuts: &mut [u64; CUTS], len: usize, at: usize, first: u64) {
+    cuts.copy_within(at..len, at + 1);
+    cuts[at] = first;
 }
 
-/// Writes the first `n` numbers of `other` to the indices `at..at + n`.
+/// Inserts `first` and `second` at the index `at` of the first `len` cuts.
 #[inline(always)]
-fn copy_in(starts: &mut [u64; CAPACITY], at: usize, other: &[u64; CAPACITY], n: usize) {
-    starts[at..at + n].copy_from_slice(&other[..n]);
+fn insert_two(cuts: &mut [u64; CUTS], len: usize, at: usize, first: u64, second: u64) {
+    cuts.copy_within(at..len, at + 2);
+    cuts[at] = first;
+    cuts[at + 1] = second;
+}
+
+/// Keeps the cuts below the index `at`, and writes pads to the indices `at..len`.
+#[inline(always)]
+fn clear(cuts: &mut [u64; CUTS], len: usize, at: usize) {
+    cuts[at..len].fill(u64::MAX);
+}
+
+/// Removes the cuts with the indices `to..from` from the first `len` cuts.
+#[inline(always)]
+fn remove_between(cuts: &mut [u64; CUTS], len: usize, to: usize, from: usize) {
+    cuts.copy_within(from..len, to);
+    clear(cuts, len, len - from + to);
+}
+
+/// Writes `n` cuts of `other`, without the first one, to the indices `at..at + n`.
+#[inline(always)]
+fn copy_in(cuts: &mut [u64; CUTS], at: usize, other: &[u64; CUTS], n: usize) {
+    cuts[at..at + n].copy_from_slice(&other[1..n + 1]);
 }
 
 /// Returns the mask of `len` blocks with the states `held`, followed by `_more` blocks with the states `other`.
@@ -118,18 +139,14 @@ fn low_part(held: u64, at: usize) -> u64 {
 impl Leaf {
     /// Creates a leaf that has only this block.
     pub(in crate::proved) fn single(block: Block) -> Leaf {
-        let mut starts = [0; CAPACITY];
-        starts[0] = block.key.start();
+        let mut cuts = [u64::MAX; CUTS];
+        cuts[0] = cut_before(block.key.start());
+        cuts[1] = block.key.end();
         let held = match block.state {
             NodeState::Free => 0,
             NodeState::Allocated => 1,
         };
-        Leaf {
-            starts,
-            end: block.key.end(),
-            held,
-            len: 1,
-        }
+        Leaf { held, len: 1, cuts }
     }
 
     /// Returns the number of blocks.
@@ -141,18 +158,13 @@ impl Leaf {
     /// Returns the first address of block `i`.
     #[inline(always)]
     fn start_at(&self, i: usize) -> u64 {
-        self.starts[i]
+        after_cut(self.cuts[i])
     }
 
     /// Returns the last address of block `i`.
     #[inline(always)]
     fn end_at(&self, i: usize) -> u64 {
-        let len = self.len;
-        if i + 1 < len {
-            self.starts[i + 1] - 1
-        } else {
-            self.end
-        }
+        self.cuts[i + 1]
     }
 
     /// Returns the state of block `i`.
@@ -172,28 +184,19 @@ impl Leaf {
     /// Returns 1 if block `i` exists and starts at or below `address`, otherwise 0.
     #[inline(always)]
     fn one_if_up_to(&self, i: usize, address: u64) -> usize {
-        let len = self.len;
-        let first = self.starts[i];
-        if (i < len) & (first <= address) {
+        if self.cuts[i] < address {
             1
         } else {
             0
         }
     }
 
-    /// Returns `low + half` if that block exists and starts at or below `address`, otherwise `low`.
+    /// Returns `low + 1` if that block exists and starts at or below `address`, otherwise `low`.
     ///
-    /// The block with the address must be one of the `2 * half` blocks starting at `low`.
+    /// The block with the address must be one of these two.
     #[inline(always)]
-    fn narrow_to_half(&self, low: usize, half: usize, address: u64) -> usize {
-        let len = self.len;
-        let middle = low + half;
-        let first = self.starts[middle];
-        if (middle < len) & (first <= address) {
-            middle
-        } else {
-            low
-        }
+    fn narrow_to_one(&self, low: usize, address: u64) -> usize {
+        low + self.one_if_up_to(low + 1, address)
     }
 
     /// Returns the last of the indices `low`, `low + step`, `low + 2 * step` and `low + 3 * step` whose
@@ -213,15 +216,9 @@ impl Leaf {
     /// No branch depends on the address. The search also reads entries of the array behind the last block,
     /// which have no effect.
     pub(in crate::proved) fn index_of(&self, address: u64) -> usize {
-        if self.len() > 16 {
-            let low = self.narrow_to_quarter(0, 8, address);
-            let low = self.narrow_to_quarter(low, 2, address);
-            return self.narrow_to_half(low, 1, address);
-        }
-        let low = self.narrow_to_half(0, 8, address);
-        let low = self.narrow_to_half(low, 4, address);
-        let low = self.narrow_to_half(low, 2, address);
-        self.narrow_to_half(low, 1, address)
+        let low = self.narrow_to_quarter(0, 8, address);
+        let low = self.narrow_to_quarter(low, 2, address);
+        self.narrow_to_one(low, address)
     }
 
     /// Allocates the whole gap `i`.
@@ -233,7 +230,7 @@ impl Leaf {
     #[inline(always)]
     fn split_upper(&mut self, i: usize, first: u64) {
         let len = self.len;
-        insert_one(&mut self.starts, len, i + 1, first);
+        insert_one(&mut self.cuts, len + 1, i + 1, first - 1);
         self.held = with_held(with_moved(self.held, i + 1, i + 1, i + 2), i + 1);
         self.len = len + 1;
     }
@@ -242,7 +239,7 @@ impl Leaf {
     #[inline(always)]
     fn split_lower(&mut self, i: usize, next: u64) {
         let len = self.len;
-        insert_one(&mut self.starts, len, i + 1, next);
+        insert_one(&mut self.cuts, len + 1, i + 1, next - 1);
         self.held = with_held(with_moved(self.held, i + 1, i + 1, i + 2), i);
         self.len = len + 1;
     }
@@ -252,7 +249,7 @@ impl Leaf {
     #[inline(always)]
     fn split_middle(&mut self, i: usize, first: u64, next: u64) {
         let len = self.len;
-        insert_two(&mut self.starts, len, i + 1, first, next);
+        insert_two(&mut self.cuts, len + 1, i + 1, first - 1, next - 1);
         self.held = with_held(with_moved(self.held, i + 1, i + 1, i + 3), i + 1);
         self.len = len + 2;
     }
@@ -270,7 +267,7 @@ impl Leaf {
             return self.set_free(i);
         }
         let len = self.len;
-        remove_between(&mut self.starts, len, i + 1, i + n);
+        remove_between(&mut self.cuts, len + 1, i + 1, i + n);
         self.held = with_moved(self.held, i, i + n, i + 1);
         self.len = len - n + 1;
     }
@@ -329,15 +326,14 @@ impl Leaf {
     #[inline(always)]
     fn split_off(&mut self, at: usize) -> Leaf {
         let len = self.len;
-        let mut starts = self.starts;
-        remove_between(&mut starts, len, 0, at);
+        let mut cuts = self.cuts;
+        remove_between(&mut cuts, len + 1, 0, at);
         let upper = Leaf {
-            starts,
-            end: self.end,
             held: self.held >> at,
             len: len - at,
+            cuts,
         };
-        self.end = self.starts[at] - 1;
+        clear(&mut self.cuts, len + 1, at + 1);
         self.held = low_part(self.held, at);
         self.len = at;
         upper
@@ -346,9 +342,8 @@ impl Leaf {
     /// Appends the blocks of the next leaf. The leaf must have room for them.
     pub(in crate::proved) fn append(&mut self, other: &Leaf) {
         let (len, more) = (self.len, other.len);
-        copy_in(&mut self.starts, len, &other.starts, more);
+        copy_in(&mut self.cuts, len + 1, &other.cuts, more);
         self.held = with_appended(self.held, len, other.held, more);
-        self.end = other.end;
         self.len = len + more;
     }
 }

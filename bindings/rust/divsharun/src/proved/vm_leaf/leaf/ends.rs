@@ -25,17 +25,17 @@ impl Leaf {
     /// Returns the last address.
     #[inline(always)]
     pub(in crate::proved) fn end(&self) -> u64 {
-        self.end
+        let len = self.len;
+        self.cuts[len]
     }
 
     /// Returns a leaf with the same blocks.
     #[inline(always)]
     pub(in crate::proved) fn copy(&self) -> Leaf {
         Leaf {
-            starts: self.starts,
-            end: self.end,
             held: self.held,
             len: self.len,
+            cuts: self.cuts,
         }
     }
 
@@ -43,8 +43,7 @@ impl Leaf {
     #[inline(always)]
     pub(in crate::proved) fn push(&mut self, block: Block) {
         let len = self.len;
-        self.starts[len] = block.key.start();
-        self.end = block.key.end();
+        self.cuts[len + 1] = block.key.end();
         self.held = with_next(self.held, len, block.state);
         self.len = len + 1;
     }

@@ -2,7 +2,7 @@
 
 //! Changes at the ends of a leaf, and blocks that move between neighbouring leaves.
 
-use super::{low_part, remove_between, Leaf, Rest, CAPACITY, MIN_BLOCKS};
+use super::{clear, cut_before, low_part, remove_between, Leaf, Rest, CAPACITY, MIN_BLOCKS};
 use crate::proved::vm_ranges::RangeInclusive;
 
 /// Returns the number of blocks that a full leaf keeps when it is split to allocate a range of the gap `i`.
@@ -24,27 +24,29 @@ impl Leaf {
     /// Removes the first block. There must be another one.
     pub(in crate::proved) fn drop_first(&mut self) {
         let len = self.len;
-        remove_between(&mut self.starts, len, 0, 1);
+        remove_between(&mut self.cuts, len + 1, 0, 1);
         self.held >>= 1;
         self.len = len - 1;
     }
 
     /// Removes the last block. There must be another one.
     pub(in crate::proved) fn drop_last(&mut self) {
-        let last = self.len - 1;
-        self.end = self.starts[last] - 1;
+        let len = self.len;
+        let last = len - 1;
+        clear(&mut self.cuts, len + 1, len);
         self.held = low_part(self.held, last);
         self.len = last;
     }
 
     /// Sets the first address of the first block, which must not be past the last one.
     pub(in crate::proved) fn move_start(&mut self, start: u64) {
-        self.starts[0] = start;
+        self.cuts[0] = cut_before(start);
     }
 
     /// Sets the last address of the last block, which must not be before the first one.
     pub(in crate::proved) fn move_end(&mut self, end: u64) {
-        self.end = end;
+        let len = self.len;
+        self.cuts[len] = end;
     }
 
     /// Moves blocks between this leaf and the next one, so that this leaf has half of the blocks of both.

@@ -2,8 +2,8 @@
 
 //! The summary of the gaps of a leaf: how long they are, and which alignments have a multiple in them.
 
-use super::gaps::{lowest_one, without_lowest};
-use super::{low_part, Leaf};
+use super::gaps::{lowest_one, lowest_one_or, without_any, without_lowest};
+use super::Leaf;
 use crate::proved::vm_ranges::RangeInclusive;
 
 /// The summary of some gaps. Both fields are 0 if there is no gap.
@@ -48,24 +48,29 @@ impl Summary {
 }
 
 impl Leaf {
+    /// Returns the length of block `i`, and a number whose highest bit is the largest alignment in it.
+    #[inline(always)]
+    fn measure(&self, i: usize) -> (u64, u64) {
+        let key = self.key_at(i);
+        (key.len(), reach(key.start(), key.end()))
+    }
+
     /// Returns the summary of the gaps of the leaf.
+    ///
+    /// The processor can measure the two gaps of a turn at once. If only one is left, both are that one.
     #[inline(never)]
     pub(in crate::proved) fn summary(&self) -> Summary {
-        let last = self.len() - 1;
         let (mut longest, mut reached) = (0, 0);
-        // The last block ends at the end of the leaf, and each other one before the next start.
-        let mut gaps = low_part(self.gaps(), last);
+        let mut gaps = self.gaps();
         while gaps != 0 {
-            let i = lowest_one(gaps);
+            let first = lowest_one(gaps);
             gaps = without_lowest(gaps);
-            let (next, start) = (self.start_at(i + 1), self.start_at(i));
-            longest = longest.max(next - start);
-            reached |= reach(start, next - 1);
-        }
-        if self.is_free_at(last) {
-            let (start, end) = (self.start_at(last), self.end_at(last));
-            longest = longest.max(1 + (end - start));
-            reached |= reach(start, end);
+            let second = lowest_one_or(gaps, first);
+            gaps = without_any(gaps);
+            let (one, one_reached) = self.measure(first);
+            let (two, two_reached) = self.measure(second);
+            longest = longest.max(one.max(two));
+            reached |= one_reached | two_reached;
         }
         Summary {
             longest,

@@ -2,7 +2,7 @@
 
 //! Iteration over the blocks of a leaf from both ends.
 
-use super::{state_in, Leaf};
+use super::{after_cut, state_in, Leaf};
 use crate::proved::vm_leaf::block::{Block, BlockStart};
 use crate::proved::vm_ranges::RangeInclusive;
 use crate::rattle::AllocError;
@@ -11,32 +11,29 @@ use crate::rattle::Vec;
 /// An iterator over consecutive blocks of a leaf, from both ends.
 #[derive(Clone)]
 pub(in crate::proved) struct Blocks<'a> {
-    /// The first addresses of the blocks that are left.
-    starts: &'a [u64],
-    /// The last address of the last block that is left.
-    end: u64,
+    /// The cut before the first block that is left.
+    before: u64,
+    /// The last addresses of the blocks that are left.
+    ends: &'a [u64],
     /// The states of the blocks that are left. The lowest bit is that of the first one.
     held: u64,
 }
 
-/// Returns the last address before the first of these starts, or `end` if there is no start.
+/// Returns the last of these cuts.
 #[inline(always)]
-fn end_of_first(starts: &[u64], end: u64) -> u64 {
-    match starts.first() {
-        None => end,
-        Some(next) => *next - 1,
+fn last_cut(before: u64, ends: &[u64]) -> u64 {
+    match ends.last() {
+        None => before,
+        Some(end) => *end,
     }
 }
 
 impl Leaf {
     /// Returns an iterator over the blocks with the indices `from..to`.
     pub(in crate::proved) fn part<'a>(&'a self, from: usize, to: usize) -> Blocks<'a> {
-        if from == to {
-            return Blocks::none();
-        }
         Blocks {
-            starts: &self.starts[from..to],
-            end: self.end_at(to - 1),
+            before: self.cuts[from],
+            ends: &self.cuts[from + 1..to + 1],
             held: self.held >> from,
         }
     }
@@ -47,8 +44,8 @@ impl<'a> Blocks<'a> {
     #[inline(always)]
     pub(in crate::proved) fn none() -> Blocks<'a> {
         Blocks {
-            starts: &[],
-            end: 0,
+            before: 0,
+            ends: &[],
             held: 0,
         }
     }
@@ -59,10 +56,12 @@ impl<'a> Blocks<'a> {
         list: &mut Vec<BlockStart>,
     ) -> Result<(), AllocError> {
         let mut held = self.held;
-        for start in self.starts {
-            let address = *start;
+        let mut before = self.before;
+        for end in self.ends {
+            let address = after_cut(before);
             let state = state_in(held, 0);
             list.push(BlockStart { address, state })?;
+            before = *end;
             held >>= 1;
         }
         Ok(())
@@ -75,12 +74,13 @@ impl<'a> Iterator for Blocks<'a> {
     /// Removes and returns the lowest block that is left.
     #[inline(always)]
     fn next(&mut self) -> Option<Block> {
-        let Some((start, others)) = self.starts.split_first() else {
+        let Some((end, others)) = self.ends.split_first() else {
             return None;
         };
-        let key = RangeInclusive::between(*start, end_of_first(others, self.end));
+        let key = RangeInclusive::between(after_cut(self.before), *end);
         let state = state_in(self.held, 0);
-        self.starts = others;
+        self.before = *end;
+        self.ends = others;
         self.held >>= 1;
         Some(Block { key, state })
     }
@@ -90,13 +90,12 @@ impl<'a> DoubleEndedIterator for Blocks<'a> {
     /// Removes and returns the highest block that is left.
     #[inline(always)]
     fn next_back(&mut self) -> Option<Block> {
-        let Some((start, rest)) = self.starts.split_last() else {
+        let Some((end, rest)) = self.ends.split_last() else {
             return None;
         };
-        let key = RangeInclusive::between(*start, self.end);
+        let key = RangeInclusive::between(after_cut(last_cut(self.before, rest)), *end);
         let state = state_in(self.held, rest.len());
-        self.starts = rest;
-        self.end = start.saturating_sub(1);
+        self.ends = rest;
         Some(Block { key, state })
     }
 }
