@@ -58,7 +58,7 @@ METHODS = set("""and_then as_array as_object as_slice as_str as_u64 capacity che
     is_ascii_digit is_empty is_err is_none is_null is_ok is_power_of_two is_some iter last len max min next
     next_back ok ok_or partition_point pop pop_first position push range read remove reserve rotate_left saturating_add
     saturating_sub split_at split_first split_last take trailing_zeros truncate unwrap
-    wrapping_add wrapping_sub write_all""".split())
+    write_all""".split())
 MACROS = {"json", "matches", "unreachable"}
 DERIVES = {"Clone", "Copy", "Debug", "Default", "Drop", "Eq", "Error", "Hash", "Ord", "PartialEq", "PartialOrd"}
 TRAITS = {"DoubleEndedIterator", "Eq", "ExactSizeIterator", "From", "Iterator", "Ord", "PartialEq", "PartialOrd"}

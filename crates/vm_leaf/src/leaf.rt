@@ -123,20 +123,20 @@ fn with_moved(held: u64, keep: usize, from: usize, to: usize) -> u64
 
 /// Returns the first address after a cut.
 #[inline(always)]
-#[tactic(auto, using(crate::proofs::Cuts::after))]
+#[tactic(auto, using(crate::proofs::Cuts::afters))]
 fn after_cut(cut: u64) -> u64
     ensures { result ≡ start_after cut }
 {
-    cut.wrapping_add(1)
+    if cut == u64::MAX { 0 } else { cut + 1 }
 }
 
 /// Returns the cut before a block that starts at `start`.
 #[inline(always)]
-#[tactic(auto, using(crate::proofs::Cuts::before))]
+#[tactic(auto, using(crate::proofs::Cuts::befores))]
 fn cut_before(start: u64) -> u64
     ensures { start_after result ≡ start }
 {
-    start.wrapping_sub(1)
+    if start == 0 { u64::MAX } else { start - 1 }
 }
 
 /// Inserts `first` at the index `at` of the first `len` cuts.

@@ -81,13 +81,21 @@ fn with_moved(held: u64, keep: usize, from: usize, to: usize) -> u64 {
 /// Returns the first address after a cut.
 #[inline(always)]
 fn after_cut(cut: u64) -> u64 {
-    cut.wrapping_add(1)
+    if cut == u64::MAX {
+        0
+    } else {
+        cut + 1
+    }
 }
 
 /// Returns the cut before a block that starts at `start`.
 #[inline(always)]
 fn cut_before(start: u64) -> u64 {
-    start.wrapping_sub(1)
+    if start == 0 {
+        u64::MAX
+    } else {
+        start - 1
+    }
 }
 
 /// Inserts `first` at the index `at` of the first `len` cuts.
