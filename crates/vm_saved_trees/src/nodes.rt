@@ -84,6 +84,7 @@ impl ReadNodes {
     /// After an error, each call returns this error.
     /// - `Violated(Nesting)` if it is nested in 50 nodes.
     /// - `OutOfMemory` if an allocation fails.
+    #[tactic(auto, using(crate::proofs::SavedNodes::Stored::begin_fails, crate::proofs::SavedNodes::Stored::begin_ends, crate::proofs::SavedNodes::Stored::reader_begins))]
     pub fn begin(&mut self) -> std::result::Result<(), SavedError>
         ensures { BeginsNode self.old result self.new }
     {
@@ -111,6 +112,7 @@ impl ReadNodes {
     ///   - The key is allocated and ends at `u64::MAX`.
     ///   - Nodes are nested more than 50 deep.
     /// - `OutOfMemory` if an allocation fails.
+    #[tactic(auto, using(crate::proofs::SavedNodes::Stored::end_ends))]
     pub fn end(
         &mut self,
         side: Side,
@@ -210,6 +212,7 @@ fn end_in(
 }
 
 /// Returns the last of `root` and these.
+#[tactic(auto, using(crate::proofs::SavedNodes::Stored::last_is))]
 fn innermost<'a>(root: &'a Children, nested: &'a [Children]) -> &'a Children
     ensures { result.now ≡ innermost root.now nested.now }
 {

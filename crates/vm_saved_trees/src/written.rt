@@ -100,6 +100,7 @@ fn last_before(starts: &[BlockStart], end: u64) -> u64
 
 impl<'a> WrittenTree<'a> {
     /// Returns `true` if there is no block, so there is no root.
+    #[tactic(auto, using(crate::proofs::SavedNodes::BlockStarts::no_blocks))]
     pub fn is_empty(&self) -> bool
         ensures { IsTrue result ↔ (self.now ≡ []) }
     {

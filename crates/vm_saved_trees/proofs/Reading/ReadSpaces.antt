@@ -47,4 +47,3 @@ pub tree_state_valid : (d : Data) (state : AddressState) → IsRange state.space
 tree_state_valid d state range p =
     let i = is_state state.space (node_blocks p.tree) p.blocks range in
     subst (λ (hs : List Range). IsAddressState (state_with state.space hs)) p.held i
-

@@ -62,4 +62,3 @@ strict_keys d space state p few =
       held = p.held;
       is_space = p.is_space;
     }
-

@@ -17,4 +17,3 @@ nodes_are_written bs n l r w p q =
       rw a p,
       rw b q,
     )
-

@@ -1,3 +1,4 @@
+-- A child is set in the last of the nested nodes. That the last index has the innermost node is a lemma by induction.
 use Rattle.std.proofs.Common.{ap, sym, ◌∙◌, arith}
 use Rattle.vm_saved_trees.specs.NodesRead.{with_span}
 use Rattle.vm_saved_trees.specs.declared.nodes.Children.{Children}

@@ -1,3 +1,4 @@
+-- The keys are appended in order: left child, node, right child. The prover does not split an arbitrary saved tree at its root.
 use Rattle.std.proofs.Common.{sym}
 use Rattle.serde_json.specs.View.{view}
 use Rattle.vm_saved_trees.proofs.Reading.ReadValues.{no_keys, no_nodes, keys_appended}

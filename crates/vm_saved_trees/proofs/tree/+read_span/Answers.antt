@@ -1,3 +1,4 @@
+-- If there is no result, no saved tree has these nodes. The prover does not split an arbitrary saved tree at its root.
 use Rattle.std.proofs.Common.{◌≡◌, None, sym, rules, arith}
 use Rattle.serde_json.specs.View.{view}
 use Rattle.vm_saved_trees.proofs.Reading.ReadValues.{read_too_deep, read_undecoded, read_no_left, read_no_right, read_no_span, read_one}

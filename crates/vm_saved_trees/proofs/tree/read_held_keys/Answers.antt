@@ -1,3 +1,4 @@
+-- A value is accepted if and only if the span of its root is. The prover does not name the saved tree that was read.
 use Rattle.std.proofs.Common.{◌≡◌, ◌∙◌, true, false, Option, Err, sym, rules, refl}
 use Rattle.serde_json.specs.View.{view}
 use Rattle.vm_ranges.specs.declared.saved.ValueError.TheVariants.{OutOfMemory}
@@ -34,7 +35,8 @@ returns-clause-answer c =
 
 pub returns-clause-held : goal.returns-clause-held
 returns-clause-held c =
-    let read = c.in-Some.ensures in
-    (read.0,
-    keys_held c.args.form (view c.args.value.now) c.args.space.now c.end-end.ensures.range c.in-Some.root read.0 read.1.nodes
-    read.1.stands (sym c.is_accepted.ensures.accepted ∙ c.if-not-is_accepted.false) _ (c.in_ok-held_keys.ensures c.in-Some.root read.0 read.1))
+    let read = c.in-Some.ensures in (
+      read.0,
+      keys_held c.args.form (view c.args.value.now) c.args.space.now c.end-end.ensures.range c.in-Some.root read.0 read.1.nodes
+          read.1.stands (sym c.is_accepted.ensures.accepted ∙ c.if-not-is_accepted.false) _ (c.in_ok-held_keys.ensures c.in-Some.root read.0 read.1),
+    )

@@ -1,3 +1,4 @@
+-- The kept keys are those of each tree that the root's span stands for. The prover does not build a fact about every tree.
 use Rattle.std.proofs.Common.{◌≡◌, ◌∙◌, true, false, [], Option, None, Ok, Err, sym, ap, subst, refl, arith}
 use Rattle.vm_ranges.specs.Range.{IsRange}
 use Rattle.vm_ranges.specs.declared.saved.Condition.{Condition}
@@ -50,6 +51,8 @@ returns-clause-held c =
     let form = c.args.form in
     let space = c.args.space.now in
     let whole = c.in-Some-root_of.ensures in
-    let w = whole_in _ _ _ _ _ c.self.invariant c.in_default.is c.deref.ensures.value (whole.0, whole.1) in
-    (w.0, keys_as form space c.self.inside.root.left w.0 w.1 c.is_accepted.ensures.space.1 (root_accepted c) c.deref-2.result.now
-    (c.deref-2.ensures.value ∙ w.2))
+    let w = whole_in _ _ _ _ _ c.self.invariant c.in_default.is c.deref.ensures.value (whole.0, whole.1) in (
+      w.0,
+      keys_as form space c.self.inside.root.left w.0 w.1 c.is_accepted.ensures.space.1 (root_accepted c) c.deref-2.result.now
+          (c.deref-2.ensures.value ∙ w.2),
+    )

@@ -1,3 +1,4 @@
+-- The block in the middle splits the starts in two. The prover does not carry this cut from the starts over to the blocks.
 use Rattle.std.proofs.Common.{◌≡◌, ◌∷◌, ◌++◌, length, rules}
 use Rattle.vm_saved_trees.proofs.SavedNodes.BlockStarts.{is_parted, length-blocks_from, lowest_height}
 use Rattle.vm_saved_trees.proofs.written.WrittenTree.root.Goals as goal
