@@ -122,10 +122,7 @@ fn build(
 }
 
 /// Checks that these ranges can be allocated in the space. The error has the index of the first that cannot.
-fn check_held(
-    space: &RangeInclusive,
-    held: &[RangeInclusive],
-) -> std::result::Result<(), ListError>
+fn check_held(space: &RangeInclusive, held: &[RangeInclusive]) -> std::result::Result<(), ListError>
     ensures checked { ChecksHeld space.now held.now result }
     ensures space { IsRange space.now.start space.now.end }
 {

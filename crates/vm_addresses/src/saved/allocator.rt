@@ -43,6 +43,7 @@ impl AddressAllocator {
     /// In this order:
     /// - `NotAState` if the value does not encode an allocator.
     /// - `OutOfMemory` if an allocation fails.
+    #[tactic(auto, using(crate::proofs::Reading::ReadAllocators::read_by))]
     pub fn from_value(alloc: Global, value: &Value) -> std::result::Result<Self, ValueError>
         ensures answer { Reads (EncodesAddresses (view value.now)) (made_state result) }
         ensures low { IfOk result IsLowestTree }
@@ -76,6 +77,7 @@ impl AddressAllocator {
     ///   - An allocated key ends at `u64::MAX`.
     ///   - More than 6,293,134,512 keys are allocated.
     /// - `OutOfMemory` if an allocation fails.
+    #[tactic(auto, using(crate::proofs::Reading::ReadAllocators::none_repaired, crate::proofs::Reading::ReadAllocators::repaired_read_by))]
     pub fn from_value_repaired(
         alloc: Global,
         value: &Value,

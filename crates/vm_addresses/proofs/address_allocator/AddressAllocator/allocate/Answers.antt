@@ -1,3 +1,4 @@
+-- An invalid request fills no gap, and the new state is valid. The prover does not replace the allocator by its tree in the state.
 use Rattle.vm_addresses.proofs.Results.AddressResults.{allocated_state}
 use Rattle.vm_addresses.proofs.Results.Filling.{no_constraint_fault}
 use Rattle.vm_addresses.proofs.Trees.Spaces.{state_of_tree}

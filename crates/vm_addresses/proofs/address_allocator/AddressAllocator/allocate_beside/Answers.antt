@@ -1,3 +1,4 @@
+-- The limit of splits leaves out one range, which will be freed. The prover does not split the test of the limit in two cases.
 use Rattle.std.proofs.Common.{◌≡◌, ◌-◌, ◌<◌, ◌≤◌, ℕ, length, leb, arith, ⊎_elim, Result}
 use Rattle.std.proofs.lemmas.Bool.{cases_lt, le-leb, lt-leb}
 use Rattle.vm_ranges.specs.Cases.{IsTestOf}

@@ -1,3 +1,4 @@
+-- The test of the limit compares the number of held ranges. The prover does not split it in two cases.
 use Rattle.std.proofs.Common.{◌≡◌, ◌<◌, ◌≤◌, ℕ, length, ltb, arith, ⊎_elim, Result}
 use Rattle.std.proofs.lemmas.Bool.{cases_lt, lt-ltb, le-ltb}
 use Rattle.vm_ranges.specs.Cases.{IsTestOf}

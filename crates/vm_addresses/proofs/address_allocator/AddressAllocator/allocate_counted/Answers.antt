@@ -1,3 +1,4 @@
+-- An invalid request fills no gap, and a valid one has the arguments as its parts. The prover does not rewrite along this equation.
 use Rattle.vm_tree.specs.Shape.{height_of}
 use Rattle.vm_addresses.specs.Allocator.{state_of}
 use Rattle.vm_addresses.specs.Counts.GapSearch.{SearchesGaps}

@@ -1,3 +1,4 @@
+-- The counts of ranges, gaps and addresses stay true. The prover does not count blocks, and lemmas on both trees do.
 use Rattle.std.proofs.Common.{◌≡◌, ◌≤◌, true, length, Bool, Ok, Err, arith}
 use Rattle.vm_tree.specs.Shape.{Shape, blocks}
 use Rattle.vm_addresses.specs.Allocator.{state_of}

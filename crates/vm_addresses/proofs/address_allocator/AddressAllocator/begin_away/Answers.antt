@@ -1,3 +1,4 @@
+-- The new range is held beside the old one until the move is finished. The prover does not rewrite it to the range of the begun move.
 use Rattle.std.proofs.Common.{◌-◌, length, sym, subst, Ok}
 use Rattle.vm_ranges.specs.Range.{Range}
 use Rattle.vm_addresses.specs.Allocator.{state_of}

@@ -1,3 +1,4 @@
+-- A freed range joins the gaps beside it, and the counts stay true. The prover does not count blocks, and lemmas on both trees do.
 use Rattle.std.proofs.Common.{arith, ap}
 use Rattle.vm_ranges.specs.Range.{Range}
 use Rattle.vm_tree.specs.Shape.{blocks}

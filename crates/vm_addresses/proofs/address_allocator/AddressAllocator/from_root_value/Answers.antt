@@ -1,3 +1,4 @@
+-- The keys of an accepted value can be held in the space. The prover does not name the saved tree of the value.
 use Rattle.std.proofs.Common.{◌≡◌, Err, rules}
 use Rattle.vm_ranges.specs.declared.saved.ValueError.TheVariants.{OutOfMemory}
 use Rattle.vm_addresses.proofs.SavedNodes.HeldKeys.{can_hold}

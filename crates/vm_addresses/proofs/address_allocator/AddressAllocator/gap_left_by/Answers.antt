@@ -1,3 +1,4 @@
+-- The gap is the range between both ends that were found. The search for the two lemmas gives up at its limits.
 use Rattle.vm_addresses.specs.Allocator.{state_of}
 use Rattle.vm_addresses.proofs.Moving.LeftGaps.{left_gap, left_range}
 use Rattle.vm_addresses.proofs.address_allocator.AddressAllocator.gap_left_by.Goals as goal

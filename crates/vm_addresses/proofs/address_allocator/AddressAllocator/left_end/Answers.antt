@@ -1,3 +1,4 @@
+-- The gap that is left ends with the gap after the range, or with the range. The prover does not rewrite the end in these facts.
 use Rattle.std.proofs.Common.{ℕ, ◌+◌, arith, sym, subst, Some, None}
 use Rattle.vm_addresses.specs.Queries.{IsGapAt}
 use Rattle.vm_addresses.specs.Allocator.{state_of}

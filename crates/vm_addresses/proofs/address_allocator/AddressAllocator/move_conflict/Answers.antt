@@ -1,3 +1,4 @@
+-- The first held range in the way, except the one that moves, is the conflict. The prover does not replace the allocator by its tree.
 use Rattle.std.proofs.Common.{◌≡◌, refl}
 use Rattle.std.specs.List.{Contains}
 use Rattle.vm_ranges.specs.Address.{IsAddressState}

@@ -1,3 +1,4 @@
+-- The request is for as many addresses at the new start. The prover does not rewrite the request in the result of the move.
 use Rattle.std.proofs.Common.{◌≡◌, subst, arith}
 use Rattle.vm_ranges.specs.Request.{Request}
 use Rattle.vm_addresses.specs.Allocator.{state_of}

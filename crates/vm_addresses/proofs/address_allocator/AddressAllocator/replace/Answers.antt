@@ -1,3 +1,4 @@
+-- The new range is allocated in the gap that the freed one leaves. The prover does not split the test of the limit in two cases.
 use Rattle.std.proofs.Common.{◌≡◌, ◌<◌, ◌≤◌, ℕ, length, ltb, ap, subst, arith, ⊎_elim, Ok}
 use Rattle.std.proofs.lemmas.Bool.{cases_lt, lt-ltb, le-ltb}
 use Rattle.vm_ranges.specs.Cases.{IsTestOf}

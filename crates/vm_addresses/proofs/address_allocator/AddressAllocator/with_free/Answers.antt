@@ -1,3 +1,4 @@
+-- The holes between the ranges are held, and all else is clear. The prover does not rewrite the list as its first range and the others.
 use Rattle.std.proofs.Common.{◌≡◌, ◌+◌, List, ◌∷◌, None, Ok, Err, IfErr, ◌∙◌, rules, arith, subst}
 use Rattle.vm_ranges.specs.ListErrors.{by_error}
 use Rattle.vm_ranges.specs.Range.{Range}

@@ -1,3 +1,4 @@
+-- The starts in the list are those of the blocks. The prover does not rewrite along the equal lists and ends.
 use Rattle.std.proofs.Common.{◌≡◌, ◌∙◌, ap}
 use Rattle.vm_tree.specs.Shape.{blocks}
 use Rattle.vm_leaf.specs.BlockStarts.{starts_of, blocks_from, AreRanges}

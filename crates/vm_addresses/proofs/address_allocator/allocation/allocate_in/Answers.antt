@@ -1,3 +1,4 @@
+-- The policy decides from which end the tree is searched. The prover does not distinguish the cases of the policy.
 use Rattle.std.proofs.Common.{◌≡◌, sym}
 use Rattle.vm_tree.specs.Shape.{blocks}
 use Rattle.vm_addresses.proofs.Placing.Requests.{fit_allocation}

@@ -1,3 +1,4 @@
+-- The new tree has as many blocks as were counted. The lemmas on a built tree have many arguments, which the prover does not find.
 use Rattle.std.proofs.Common.{arith}
 use Rattle.vm_addresses.proofs.Trees.HeldTrees.{held_counted, built_counted, built_is_state, built_state}
 use Rattle.vm_addresses.proofs.address_allocator.building.build.Goals as goal

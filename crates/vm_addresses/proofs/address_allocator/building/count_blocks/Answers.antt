@@ -1,3 +1,4 @@
+-- The number of free addresses fits. That those of the rest are not below 0 is a lemma by induction on the list.
 use Rattle.std.proofs.Common.{arith}
 use Rattle.vm_addresses.proofs.Trees.CountedTrees.{count_dropped}
 use Rattle.vm_addresses.proofs.address_allocator.building.count_blocks.Goals as goal

@@ -1,10 +1,11 @@
+-- The invariant of the loop: the blocks and free addresses so far and those of the rest are all.
+-- The prover guesses no invariant.
 use Rattle.std.proofs.Common.{◌≡◌, ◌≤◌, ◌+◌, ◌*◌, length, drop}
 use Rattle.vm_ranges.specs.Address.{AreInOrder}
 use Rattle.vm_leaf.specs.SpaceBlocks.{blocks_between}
 use Rattle.vm_addresses.specs.Queries.{count_of}
 use Rattle.vm_addresses.proofs.address_allocator.building.count_blocks.Given as goal
 
--- The number of blocks of the ranges so far and of the gaps before them.
 abbrev pub invariant-loop-range : goal.invariant-loop-range
 invariant-loop-range l = record {
   order : AreInOrder l.next (drop l.range-index l.held) l.end;

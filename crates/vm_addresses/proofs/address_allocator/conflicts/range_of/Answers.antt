@@ -1,3 +1,4 @@
+-- A range that would end past MAX is in no space. The prover does not distinguish the cases in which no range is made.
 use Rattle.std.proofs.Common.{◌+◌, ◌-◌, ◌<◌, sym, ◌∙◌, arith, ⊎_elim}
 use Rattle.vm_ranges.specs.Range.{MAX}
 use Rattle.vm_addresses.proofs.Results.Conflicts.{past_conflict}

@@ -1,3 +1,4 @@
+-- The range at the start that was found fits in the gap. The prover does not join the two lemmas on the part of the gap.
 use Rattle.std.proofs.Common.{◌+◌, ◌-◌, arith, Some}
 use Rattle.vm_ranges.specs.Range.{IsRange}
 use Rattle.vm_addresses.specs.Checks.Moving.{FindsStart, part_for}

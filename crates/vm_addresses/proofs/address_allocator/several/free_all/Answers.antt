@@ -1,3 +1,4 @@
+-- Each turn undoes the last allocation that is left. The prover does not name the requests of the allocations that are left.
 use Rattle.std.proofs.Common.{◌≡◌, ◌∙◌, ◌++◌, ◌-◌, ℕ, ap, take, subst, List, []}
 use Rattle.vm_ranges.specs.Range.{Range}
 use Rattle.vm_addresses.specs.Allocator.{state_of}

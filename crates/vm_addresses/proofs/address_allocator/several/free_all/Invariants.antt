@@ -1,3 +1,5 @@
+-- The invariant of the loop: if requests got the ranges, some of them got the ranges that are left.
+-- The prover guesses no invariant.
 use Rattle.std.specs.Prelude.{List, length}
 use Rattle.vm_ranges.specs.Request.{Request}
 use Rattle.vm_ranges.specs.Address.{AddressState, IsAddressState}
@@ -5,7 +7,6 @@ use Rattle.vm_addresses.specs.Allocator.{state_of}
 use Rattle.vm_addresses.specs.Several.{AllocatesEach}
 use Rattle.vm_addresses.proofs.address_allocator.several.free_all.Given as goal
 
--- If requests got the ranges, some of them got the ranges that are left.
 abbrev pub invariant-loop-range : goal.invariant-loop-range
 invariant-loop-range l = record {
   left : (before : AddressState) (requests : List Request) → IsAddressState before →

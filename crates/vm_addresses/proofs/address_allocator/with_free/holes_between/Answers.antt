@@ -1,3 +1,4 @@
+-- There is a hole before the next range, or there is none. The prover does not distinguish these two cases.
 use Rattle.std.proofs.Common.{◌≡◌, ◌+◌, List, ◌∷◌, ◌++◌, None, drop, ap, ◌∙◌, subst, arith}
 use Rattle.vm_ranges.specs.Range.{Range}
 use Rattle.vm_addresses.specs.Holes.{holes_after, wrong_index}

@@ -1,3 +1,4 @@
+-- One range less is left. The prover does not rewrite the list as the ranges before its last range, and this range.
 use Rattle.std.proofs.Common.{◌≡◌, ◌<◌, [], ◌∷◌, ◌++◌, length, arith, length-append, sym, ap, ◌∙◌, rules}
 use Rattle.vm_addresses.specs.Queries.{ranges_with}
 use Rattle.vm_addresses.proofs.Walking.StateRanges.{last_with}

@@ -1,3 +1,5 @@
+-- The invariant of the loop: a skipped block has the other state, so the ranges that are left do not change.
+-- The prover guesses no invariant.
 use Rattle.std.proofs.Common.{◌≡◌, length}
 use Rattle.vm_addresses.specs.Queries.{ranges_with}
 use Rattle.vm_addresses.proofs.address_allocator.ranges.RangesInIterator.next.Given as goal
