@@ -57,6 +57,7 @@ impl<'a> DoubleEndedIterator for FreedIds<'a> {
     ghost next_back_gives = { YieldsLast (λ f. f) };
 
     /// Returns the highest freed id that is left.
+    #[tactic(auto, using(crate::proofs::Ids::HeldIds::filled_to))]
     fn next_back(&mut self) -> Option<u32> {
         let run = take_last(&mut self.first, &mut self.runs, self.last)?;
         self.last = without_last(run);

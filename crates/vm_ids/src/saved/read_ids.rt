@@ -43,6 +43,7 @@ impl Model for ReadIds {
 
 impl ReadIds {
     /// Returns an empty list of ids. It does not allocate.
+    #[tactic(auto, using(crate::proofs::Ids::AddedIds::no_ends))]
     pub fn new(alloc: Global) -> Self
         ensures { result ≡ [] }
     {

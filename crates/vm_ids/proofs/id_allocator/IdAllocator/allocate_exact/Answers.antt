@@ -1,3 +1,4 @@
+-- The other clauses follow from the exact condition of the result. The prover finds this condition, but takes no second step from it.
 use Rattle.std.proofs.Common.{◌≡◌, Ok, Err, rules}
 use Rattle.vm_ranges.specs.declared.error.Error.TheVariants.{ResourceNotAvailable, OutOfMemory}
 use Rattle.vm_ids.proofs.Ids.ExactIds.{exact, exact_no_memory, exact_state, exact_was_free, exact_succeeds}

@@ -1,3 +1,4 @@
+-- The other clauses follow from the exact condition of the result. The prover finds this condition, but takes no second step from it.
 use Rattle.std.proofs.Common.{Ok, rules}
 use Rattle.vm_ids.proofs.Callers.{id_is_lowest, id_state}
 use Rattle.vm_ids.proofs.Ids.AllocatedIds.{allocates}

@@ -1,3 +1,4 @@
+-- Each turn takes the lowest free id, so the list has the first free ids. The prover does not join lists, and lemmas by induction do.
 use Rattle.std.proofs.Common.{◌≡◌, ◌≤◌, ◌<◌, ◌++◌, [], ◌∷◌, List, ℕ, length, sym, ap, ◌∙◌, arith, rules, Err}
 use Rattle.std.proofs.lemmas.List.{length-append}
 use Rattle.std.specs.Vec.{vec_len, vec_capacity}

@@ -1,3 +1,4 @@
+-- The ids from the bound up to the new id become freed ids. The prover does not derive that the bound fits 32 bits.
 use Rattle.std.proofs.Common.{◌≡◌, ◌<◌, Err, arith, rules}
 use Rattle.vm_ranges.specs.declared.error.Error.TheVariants.{OutOfMemory}
 use Rattle.vm_ids.specs.Ids.{bound_of}

@@ -1,3 +1,4 @@
+-- A value that was checked has the parts of an allocator, so only memory can run out. The prover does not rewrite the list of its ids.
 use Rattle.std.proofs.Common.{◌≡◌, Some, Ok, Err, refl, rules}
 use Rattle.serde_json.specs.View.{view, items_view}
 use Rattle.vm_ranges.specs.declared.saved.ValueError.TheVariants.{OutOfMemory}

@@ -1,3 +1,4 @@
+-- At the start all held ids are left, between the first and the last freed run. The prover does not build the invariant of its parts.
 use Rattle.vm_ids.proofs.Ids.HeldIds.{first_taken, last_taken, first_filled, last_filled, walk_starts}
 use Rattle.vm_ids.proofs.id_allocator.IdAllocator.held_ids.Goals as goal
 

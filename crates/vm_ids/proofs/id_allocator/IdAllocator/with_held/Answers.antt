@@ -1,3 +1,4 @@
+-- The ids are held one after the other, and only skipped ids need memory. The prover does not join the facts of the calls so far.
 use Rattle.std.proofs.Common.{◌≡◌, ◌≤◌, List, ℕ, take, Err, refl, ap, ◌∙◌, arith, rules}
 use Rattle.std.proofs.lemmas.List.{take_all}
 use Rattle.vm_ids.specs.Ids.{MAX_ID, new_ids}

@@ -1,3 +1,4 @@
+-- The ids of a run are those below its last id, and this id. The prover does not rewrite the number of ids in the row.
 use Rattle.std.proofs.Common.{◌≡◌, ◌+◌, ◌-◌, ℕ, List, [], ◌∷◌, ◌++◌, ap, ◌∙◌, arith, sym}
 use Rattle.std.proofs.lemmas.List.{append-nil}
 use Rattle.std.specs.List.{range_with_len}

@@ -1,3 +1,4 @@
+-- The fields decide whether the value encodes an allocator. The prover does not rewrite the ends of the ids in the lemmas on all fields.
 use Rattle.std.proofs.Common.{◌≡◌, Some, None, option_map, sym, ◌∙◌}
 use Rattle.serde_json.specs.View.{view, items_view}
 use Rattle.vm_ids.specs.Checks.FreedChecks.{ends_of}

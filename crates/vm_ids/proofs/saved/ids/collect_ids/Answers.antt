@@ -1,3 +1,4 @@
+-- The next item is an id above those so far, so only memory can run out. The prover does not derive this from the order of all items.
 use Rattle.std.proofs.Common.{◌≡◌, ◌++◌, ◌∷◌, [], Some, Err, refl, sym, ◌∙◌, nat_cmp, rules, option_and_then}
 use Rattle.std.specs.List.Sorted.{IsStrictlySortedBy}
 use Rattle.serde_json.specs.View.{view}

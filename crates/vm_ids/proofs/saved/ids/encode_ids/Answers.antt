@@ -1,3 +1,4 @@
+-- Each turn encodes one id more. The lemma is on mapped lists, and the prover does not rewrite an identity map to its list.
 use Rattle.std.proofs.Common.{List, ℕ, ◌++◌, ◌∷◌, [], ap, sym, subst}
 use Rattle.std.proofs.lemmas.List.{map-id}
 use Rattle.serde_json.specs.View.{items_view}

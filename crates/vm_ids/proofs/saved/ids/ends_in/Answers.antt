@@ -1,3 +1,4 @@
+-- The ends are those of the ids so far, and a low id ends the reading. The prover does not name the list of these ids.
 use Rattle.std.proofs.Common.{◌≡◌, Some, None, [], sym, ◌∙◌, option_and_then}
 use Rattle.serde_json.specs.View.{view, items_view}
 use Rattle.vm_ranges.specs.Numbers.{whole_number, u32_from}

@@ -1,9 +1,10 @@
+-- The invariant of the loop: the ends are those of the ids so far.
+-- The prover guesses no invariant.
 use Rattle.std.proofs.Common.{ℕ, List}
 use Rattle.vm_ids.specs.Checks.FreedChecks.{AreEndsOf}
 use Rattle.vm_ids.proofs.Ids.AscendingNumbers.{Gathers}
 use Rattle.vm_ids.proofs.saved.ids.ends_in.Given as goal
 
--- The ends are those of the ids so far.
 abbrev pub invariant-loop-item : goal.invariant-loop-item
 invariant-loop-item l = record {
   ids : List ℕ;

@@ -1,3 +1,4 @@
+-- The first and the last id decide for the ids between them. The prover does not rewrite the ends in a fact on an arbitrary list.
 use Rattle.std.proofs.Common.{Option, Some, None, arith, subst}
 use Rattle.vm_ids.specs.declared.saved.read_ids.Ends.{Ends}
 use Rattle.vm_ids.specs.Checks.FreedChecks.{AreEndsOf}

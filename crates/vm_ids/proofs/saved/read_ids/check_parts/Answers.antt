@@ -1,3 +1,4 @@
+-- One condition is violated, or all are met, for every list with these ends. The prover does not choose the case of the error.
 use Rattle.std.proofs.Common.{inl, inr, refl, arith}
 use Rattle.std.proofs.lemmas.Bool.{both_ways}
 use Rattle.vm_ids.specs.Ids.{IsNext}

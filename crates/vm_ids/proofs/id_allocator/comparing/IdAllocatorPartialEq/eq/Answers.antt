@@ -1,3 +1,4 @@
+-- Equal bounds and equal freed ids are equal states. The prover does not build the record of the parts of an allocator.
 use Rattle.std.proofs.Common.{refl}
 use Rattle.vm_ids.proofs.Ids.ComparedIds.{tested, ordered}
 use Rattle.vm_ids.proofs.id_allocator.comparing.IdAllocatorPartialEq.eq.Goals as goal

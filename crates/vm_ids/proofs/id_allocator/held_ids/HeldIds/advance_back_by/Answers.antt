@@ -1,3 +1,4 @@
+-- A turn passes the last freed run, or a row of held ids above it. The prover does not distinguish whether a freed run is left.
 use Rattle.std.proofs.Common.{◌<◌, ◌+◌, ◌-◌, arith, IfSome}
 use Rattle.std.proofs.lemmas.List.FromFn.{length-range_with_len}
 use Rattle.vm_chunks.specs.declared.id_set.Run.{Run}

@@ -1,8 +1,9 @@
+-- The invariant of the loop: the ids that are left after the rest is passed do not change.
+-- The prover guesses no invariant.
 use Rattle.std.proofs.Common.{◌≡◌, ◌-◌, drop}
 use Rattle.vm_ids.specs.Checks.IdQueries.{freed_from, freed_to, ids_left, AreIdsLeft, AreFilled}
 use Rattle.vm_ids.proofs.id_allocator.held_ids.HeldIds.advance_by.Given as goal
 
--- The ids that are left after the rest is passed do not change.
 abbrev pub invariant-loop-rest : goal.invariant-loop-rest
 invariant-loop-rest l = record {
   valid : AreIdsLeft l.self-inside.next l.self-inside.bound (freed_from l.self-inside.next_freed l.self-inside.freed_above)

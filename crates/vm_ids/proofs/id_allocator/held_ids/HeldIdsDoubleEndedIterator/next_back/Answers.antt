@@ -1,3 +1,4 @@
+-- The id below the bound is held if no freed run ends there. The prover does not distinguish whether a freed run is left.
 use Rattle.std.proofs.Common.{◌<◌, ◌+◌, length, sym, ap, ◌∙◌, arith, IfSome}
 use Rattle.std.proofs.lemmas.List.{length_push}
 use Rattle.vm_chunks.specs.declared.id_set.Run.{Run}

@@ -1,8 +1,9 @@
+-- The invariant of the loop: the ids that are left do not change, since only freed runs are passed.
+-- The prover guesses no invariant.
 use Rattle.std.proofs.Common.{◌≡◌, ◌-◌}
 use Rattle.vm_ids.specs.Checks.IdQueries.{freed_from, freed_to, ids_left, AreIdsLeft, AreFilled}
 use Rattle.vm_ids.proofs.id_allocator.held_ids.HeldIdsDoubleEndedIterator.next_back.Given as goal
 
--- The ids that are left do not change.
 abbrev pub invariant-loop-self : goal.invariant-loop-self
 invariant-loop-self l = record {
   valid : AreIdsLeft l.self-inside.next l.self-inside.bound (freed_from l.self-inside.next_freed l.self-inside.freed_above)

@@ -1,3 +1,4 @@
+-- The next id is held if no freed run starts there. The prover does not distinguish whether a freed run is left.
 use Rattle.std.proofs.Common.{◌+◌, ◌≤◌, length, sym, ap, ◌∙◌, arith, IfSome}
 use Rattle.vm_chunks.specs.declared.id_set.Run.{Run}
 use Rattle.vm_ids.proofs.Ids.HeldIds.{passes_run, run_fits, filled_after, next_not_freed, visits_row}
