@@ -162,4 +162,3 @@ module _ (id : ℕ) (cs : List (List Run)) (bs : List ℕ) (r : AreChunks last_o
       subst (HasId id) (sym above_same) has,
       ap (λ x. entries_of (set cs i x)) (e ∙ here) ∙ ap (λ (cs : List (List Run)). entries_of cs) (set-get_or cs i c),
     )
-

@@ -1,3 +1,4 @@
+-- An empty upper chunk is removed, which is the same as joining the two. The prover does not get an empty list from the length 0.
 use Rattle.std.proofs.Common.{◌≡◌, ◌<◌, [], length, get_or, inl, ◌∙◌, sym, ap, arith}
 use Rattle.std.proofs.lemmas.List.{nil_from_length, get_or_read}
 use Rattle.vm_chunks.proofs.Divisions.{empty_removed}

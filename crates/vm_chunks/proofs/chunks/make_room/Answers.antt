@@ -1,3 +1,4 @@
+-- A split keeps the entries, and gives the key a chunk with room. The prover does not rewrite the chunks and bounds by the results of the split.
 use Rattle.std.proofs.Common.{rules, get_or, ◌<◌, [], length, ap, ◌∙◌, subst, arith}
 use Rattle.std.proofs.lemmas.List.{get_or_read}
 use Rattle.vm_chunks.proofs.Homes.{all_bounds_descend, same_lengths, place_within}

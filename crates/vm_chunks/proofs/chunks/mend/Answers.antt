@@ -1,3 +1,4 @@
+-- The changed chunk is the upper or the lower one of the two that are joined. The prover does not distinguish these cases.
 use Rattle.std.proofs.Common.{rules, ◌≡◌, ◌<◌, ◌≤◌, ◌+◌, ◌-◌, ◌⊎◌, length, inl, inr, arith}
 use Rattle.std.proofs.lemmas.Bool.{cases_lt}
 use Rattle.vm_chunks.proofs.Homes.{same_lengths}

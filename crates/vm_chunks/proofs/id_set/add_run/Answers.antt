@@ -1,3 +1,4 @@
+-- The ids become a new highest run, or join the highest run if it ends right below them. Each case needs a lemma on the runs and on their ids.
 use Rattle.std.proofs.Common.{arith}
 use Rattle.vm_chunks.proofs.RunEnds.{last_new, kept_runs, kept_ids, dropped_runs, dropped_ids}
 use Rattle.vm_chunks.proofs.id_set.add_run.Goals as goal

@@ -1,3 +1,4 @@
+-- A run without one id leaves at most two runs. The prover does not distinguish whether a part is left below the id.
 use Rattle.std.proofs.Common.{◌<◌, ◌-◌, ◌+◌, [], ◌∷◌, sym, ap, ◌∙◌, refl, inl, inr, arith, subst}
 use Rattle.vm_chunks.specs.Entries.{with_entry, without}
 use Rattle.vm_chunks.proofs.Runs.{key_of}

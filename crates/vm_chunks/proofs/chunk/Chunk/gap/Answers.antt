@@ -1,3 +1,4 @@
+-- The entries next to a key are before and at its place. The prover does not distinguish a place at an end of the chunk from others.
 use Rattle.std.proofs.Common.{◌<◌, ◌-◌, length, ◌∙◌, arith}
 use Rattle.std.proofs.lemmas.List.{get_or_read}
 use Rattle.vm_chunks.proofs.Cuts.{none_from, found_from, none_under, found_under}

@@ -1,3 +1,5 @@
+-- An entry with the key can only be at its place.
+-- The prover does not distinguish the two cases without one: the place is the end, or the entry there has another key.
 use Rattle.std.proofs.Common.{rules, ◌≡◌, ◌<◌, length, ap, ◌∙◌, sym}
 use Rattle.std.proofs.lemmas.List.{get_or_read}
 use Rattle.vm_chunks.proofs.Cuts.{found_at, none_at}

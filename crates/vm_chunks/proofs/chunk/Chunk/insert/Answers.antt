@@ -1,3 +1,4 @@
+-- The entry goes to its place, in the old memory or in a copy. The prover does not distinguish the two to see that the list is the same.
 use Rattle.std.proofs.Common.{◌≡◌, ap, ◌∙◌}
 use Rattle.vm_chunks.proofs.Cuts.{inserts}
 use Rattle.vm_chunks.proofs.chunk.Chunk.insert.Goals as goal

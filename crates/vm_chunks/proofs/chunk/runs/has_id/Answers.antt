@@ -1,3 +1,4 @@
+-- The lowest run that ends at the id or above it is before the place. The prover does not substitute this run for the search in the goal.
 use Rattle.std.proofs.Common.{sym, subst}
 use Rattle.std.proofs.lemmas.Bool.{leb-true, leb-false}
 use Rattle.vm_chunks.specs.Runs.{HasId, LacksId}

@@ -1,3 +1,4 @@
+-- A chunk has a run on each side of the id, or it is the first or the last one. The prover does not distinguish these cases.
 use Rattle.std.proofs.Common.{◌≡◌, ℕ, ◌<◌, ◌≤◌, Bool, true, not, IsTrue, ◌⊎◌, inl, inr, sym, ap, ◌∙◌, arith}
 use Rattle.std.proofs.lemmas.Bool.{ne_eqb, true≢false}
 use Rattle.vm_chunks.proofs.Nearby.{next_is}

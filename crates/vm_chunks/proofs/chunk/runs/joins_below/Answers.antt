@@ -1,3 +1,4 @@
+-- The comparison is true if and only if the run below ends right below the id. The prover does not turn a comparison into both directions.
 use Rattle.std.proofs.Common.{arith}
 use Rattle.std.proofs.lemmas.Bool.{eqb-true, eq-eqb, ltb-true}
 use Rattle.vm_chunks.proofs.Nearby.{no_run, right_below}

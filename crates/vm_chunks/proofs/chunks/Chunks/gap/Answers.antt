@@ -1,3 +1,4 @@
+-- The entries next to a key are in its chunk, or at the end of the chunk before or after it. The prover does not distinguish these cases.
 use Rattle.std.proofs.Common.{rules, ◌≡◌, ◌<◌, ◌+◌, ◌-◌, suc, length, get_or, take, drop, subst, sym, ap, ◌∙◌, arith}
 use Rattle.std.specs.Option.{option_or}
 use Rattle.vm_chunks.specs.Entries.{IsDescendingBy, at_or_above, highest_below}

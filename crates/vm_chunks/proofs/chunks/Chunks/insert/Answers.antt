@@ -1,3 +1,4 @@
+-- The chunk with room gets the entry, and so does the list. The prover does not substitute its new entries in the list of chunks.
 use Rattle.std.proofs.Common.{rules, ◌<◌, set, subst, sym, ap, ◌∙◌}
 use Rattle.vm_chunks.specs.Entries.{IsDescendingBy, with_entry, entry_at}
 use Rattle.vm_chunks.specs.Chunks.{TOP, entries_of, AreChunks}

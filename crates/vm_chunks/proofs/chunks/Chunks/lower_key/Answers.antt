@@ -1,3 +1,5 @@
+-- An entry gets a lower key in its chunk, and the bound of the chunk sinks to at most this key.
+-- The prover does not substitute the new entries of the chunk and its new bound in the two lists.
 use Rattle.std.proofs.Common.{rules, ◌≡◌, ◌<◌, min, get_or, set, subst, sym, ap, ◌∙◌, arith}
 use Rattle.std.specs.List.{All}
 use Rattle.std.specs.Option.{is_some}

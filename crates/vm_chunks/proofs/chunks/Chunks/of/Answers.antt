@@ -1,3 +1,4 @@
+-- The list has one chunk, with the bound 0. The prover does not rewrite the two pushed lists to lists of one item.
 use Rattle.std.proofs.Common.{◌≡◌, ℕ, List, [], ◌∷◌, ◌++◌, ap, ◌∙◌}
 use Rattle.vm_chunks.proofs.KeyedLists.{one_chunk}
 use Rattle.vm_chunks.proofs.chunks.Chunks.of.Goals as goal

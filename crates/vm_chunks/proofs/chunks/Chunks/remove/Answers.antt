@@ -1,3 +1,4 @@
+-- Only the chunk that the bounds give can have the key. The prover does not substitute its entries that are left in the list of chunks.
 use Rattle.std.proofs.Common.{rules, ◌<◌, length, set, subst, sym, ap, ◌∙◌}
 use Rattle.vm_chunks.specs.Entries.{IsDescendingBy, without, entry_at}
 use Rattle.vm_chunks.specs.Chunks.{entries_of, AreAllBounded}

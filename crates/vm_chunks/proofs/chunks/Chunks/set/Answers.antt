@@ -1,3 +1,4 @@
+-- The chunk that the bounds give has the entry with this key. The prover does not substitute its new entries in the list of chunks.
 use Rattle.std.proofs.Common.{rules, ◌<◌, set, subst, sym, ap, ◌∙◌}
 use Rattle.std.specs.Option.{is_some}
 use Rattle.vm_chunks.specs.Entries.{IsDescendingBy, with_entry, entry_at}

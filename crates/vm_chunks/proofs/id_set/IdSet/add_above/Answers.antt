@@ -1,3 +1,4 @@
+-- All ids of the set are below the new ones, whose number is added to the count. This needs lemmas on the lengths of lists of ids.
 use Rattle.std.proofs.Common.{ℕ, ◌<◌, ◌+◌, ◌-◌, ap, sym, ◌∙◌, arith, length, subst, IsTrue}
 use Rattle.std.specs.Ordering.{nat_cmp}
 use Rattle.std.specs.BTreeSet.{BTreeSet, contains}

@@ -1,3 +1,4 @@
+-- The lowest run that ends at the id or above it decides. The prover does not rewrite the set to the ids of its runs.
 use Rattle.std.proofs.Common.{ℕ, sym, ap, ◌∙◌, arith}
 use Rattle.std.specs.Ordering.{nat_cmp}
 use Rattle.std.specs.BTreeSet.{BTreeSet, contains}

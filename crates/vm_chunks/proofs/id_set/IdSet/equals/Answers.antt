@@ -1,3 +1,4 @@
+-- Two sets have the same ids if and only if they have the same runs. The iterators return the runs in reverse, which the prover does not undo.
 use Rattle.std.proofs.Common.{◌≡◌, ℕ, List, reverse, ap, sym, ◌∙◌, subst}
 use Rattle.std.proofs.lemmas.List.{reverse-reverse}
 use Rattle.std.specs.BTreeSet.{BTreeSet, IsOrdered}

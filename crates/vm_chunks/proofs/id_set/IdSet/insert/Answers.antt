@@ -1,3 +1,4 @@
+-- The new runs have the id and the old ids, and their number fits. One lemma states this for runs, and the prover does not rewrite the set to them.
 use Rattle.std.proofs.Common.{ℕ, ◌||◌, nat_eq, not, sym, ap, ◌∙◌, arith}
 use Rattle.std.specs.Ordering.{nat_cmp}
 use Rattle.std.specs.BTreeSet.{BTreeSet, contains}

@@ -1,3 +1,4 @@
+-- The lowest id leaves the set, and the count decreases by one. The prover does not rewrite the set to the ids of its runs.
 use Rattle.std.proofs.Common.{ℕ, ◌-◌, ap, ◌∙◌, arith, subst}
 use Rattle.std.specs.BTreeSet.{BTreeSet}
 use Rattle.vm_chunks.specs.Runs.{IsLowestFrom, Removes}

@@ -1,3 +1,4 @@
+-- Only an id inside its run needs memory, so the set has both ids next to it. The prover does not rewrite the set to the ids of its runs.
 use Rattle.std.proofs.Common.{ℕ, subst}
 use Rattle.std.specs.BTreeSet.{BTreeSet}
 use Rattle.vm_chunks.specs.Runs.{IsInside}

@@ -1,3 +1,4 @@
+-- The iterator returns the runs in reverse, which is the order of their ids. This needs a lemma by induction on the list of runs.
 use Rattle.std.proofs.Common.{List, ℕ, ◌≤◌, ap, ◌∙◌, subst, sym}
 use Rattle.std.specs.List.{All, flat_map}
 use Rattle.std.specs.BTreeSet.{BTreeSet, IsOrdered}

@@ -1,3 +1,4 @@
+-- The entries of the only chunk descend after the insertion. The prover does not substitute the new entries in the invariant.
 use Rattle.std.proofs.Common.{sym, subst, arith}
 use Rattle.vm_chunks.specs.Entries.{IsDescendingBy}
 use Rattle.vm_chunks.proofs.EntryLaws.{put_descends}

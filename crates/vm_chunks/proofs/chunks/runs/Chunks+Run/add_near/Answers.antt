@@ -1,3 +1,5 @@
+-- An id that is added to the runs of its chunk is added to the runs of the list.
+-- This needs lemmas on the runs next to an id in a list of chunks, for the chunk at the index that the bounds give.
 use Rattle.std.proofs.Common.{rules, ◌<◌, true, false, length, sym, ◌∙◌, subst, arith}
 use Rattle.vm_chunks.specs.Entries.{IsDescendingBy}
 use Rattle.vm_chunks.specs.Chunks.{TOP}

@@ -1,3 +1,4 @@
+-- The lowest id of the last chunk is the lowest of the list. The contract has five parts, which come from one lemma on the last chunk.
 use Rattle.std.proofs.Common.{rules, ◌≡◌, ◌+◌, length, sym, ◌∙◌}
 use Rattle.vm_chunks.specs.Runs.{last_of}
 use Rattle.vm_chunks.proofs.Divisions.{all_set}

@@ -1,3 +1,4 @@
+-- The runs of the only chunk are in order before and after the call. The prover does not substitute them for the runs of the list.
 use Rattle.std.proofs.Common.{sym, ap, ◌∙◌, subst}
 use Rattle.vm_chunks.specs.Chunks.{list_of}
 use Rattle.vm_chunks.specs.Runs.{RUNS_END, AreRuns, last_of}

@@ -1,3 +1,5 @@
+-- The run with the id replaces the runs that it joins.
+-- The prover does not distinguish whether an old run has the key of the new one, and whether a run is below the id.
 use Rattle.std.proofs.Common.{◌≡◌, ◌<◌, sym, ap, ◌∙◌, subst, arith, Option, Some, None, IfSome}
 use Rattle.vm_chunks.specs.declared.id_set.Run.{Run}
 use Rattle.vm_chunks.specs.Entries.{at_or_above, highest_below, with_entry, without_some}
