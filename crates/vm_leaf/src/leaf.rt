@@ -254,7 +254,7 @@ impl Leaf {
 
     /// Returns the first address of block `i`.
     #[inline(always)]
-    #[tactic(auto, using(crate::proofs::Fields::length_of))]
+    #[tactic(auto, using(crate::proofs::Fields::length_of, crate::proofs::Fields::start_is))]
     fn start_at(&self, i: usize) -> u64
         requires { i < length self.now }
         ensures { result ≡ (nth self.now i).key.start }
@@ -278,7 +278,7 @@ impl Leaf {
 
     /// Returns the state of block `i`.
     #[inline(always)]
-    #[tactic(auto, using(crate::proofs::Fields::length_of))]
+    #[tactic(auto, using(crate::proofs::Fields::length_of, crate::proofs::Fields::state_is))]
     fn state_at(&self, i: usize) -> NodeState
         requires { i < length self.now }
         ensures { result ≡ (nth self.now i).state }
