@@ -1,37 +1,21 @@
 -- Facts about states and calls, which proofs of calls and laws share.
-use Rattle.serde_json.specs.Data.{Data}
-use Rattle.std.specs.List.Sorted.{IsPermutation}
-use Rattle.std.specs.List.{All, AllPairs, Contains}
-use Rattle.std.specs.Prelude.{◌≡◌, ℕ, ◌+◌, ◌*◌, ◌≤◌, Ok, length, ◌↔◌, ◌<◌, ◌⊎◌, List, [], Option, Some, None, ◌-◌, ◌≢◌, ◌∷◌, ◌++◌, Result, Err, true}
-use Rattle.vm_addresses.specs.Comparison.{AreEqual}
-use Rattle.vm_addresses.specs.Conflicts.{IsConflict}
-use Rattle.vm_addresses.specs.Counts.GapSearch.{misaligned_gaps}
+use Rattle.std.specs.List.{Contains}
+use Rattle.std.specs.Prelude.{◌≡◌, ℕ, ◌+◌, ◌≤◌, Ok, length, ◌↔◌, ◌<◌, ◌⊎◌, List, [], Option, Some, None, ◌≢◌, Result, Err}
 use Rattle.vm_addresses.specs.Held.{MakesWithHeld}
-use Rattle.vm_addresses.specs.Histories.AddressHistories.{Clone, IsCallFrom, IsHistoryFrom, IsReached, Reached, WasAllocated, WasHeldFirst, releases}
+use Rattle.vm_addresses.specs.Histories.AddressHistories.{IsCallFrom}
 use Rattle.vm_addresses.specs.Holes.{MakesWithFree}
-use Rattle.vm_addresses.specs.Moves.{MovesRange}
-use Rattle.vm_addresses.specs.Queries.{free_of, gaps_of, longest_of, longest_in, count_of, IsHeldAt, IsGapAt, meeting}
-use Rattle.vm_addresses.specs.Several.{AllocatesAll}
-use Rattle.vm_addresses.specs.declared.address_allocator.conflicts.Conflict.{Conflict}
-use Rattle.vm_leaf.specs.Block.{free_length}
+use Rattle.vm_addresses.specs.Queries.{free_of, gaps_of, meeting}
 use Rattle.vm_leaf.specs.Blocks.{Tiles}
-use Rattle.vm_leaf.specs.Fit.{HasNoFit}
 use Rattle.vm_leaf.specs.SpaceBlocks.{blocks_of, held_of}
-use Rattle.vm_leaf.specs.declared.block.Block.{Block}
-use Rattle.vm_ranges.specs.Address.{AddressState, AreClear, IsPlace, IsLowestPlace, IsHighestPlace, IsAddressState, IsClear}
-use Rattle.vm_ranges.specs.Answer.{Allocates, Frees, Makes, IsChosen, AllocatesAt}
+use Rattle.vm_ranges.specs.Address.{AddressState, AreClear, IsAddressState, IsClear}
+use Rattle.vm_ranges.specs.Answer.{Allocates, Frees, Makes}
 use Rattle.vm_ranges.specs.Cases.{IfElse}
-use Rattle.vm_ranges.specs.Cloning.{Clones}
 use Rattle.vm_ranges.specs.Histories.{EveryCallIsAnswered}
-use Rattle.vm_ranges.specs.Range.{Range, Covers, IsIn, Overlaps, address_count, IsInNone, MAX, IsRange, span}
-use Rattle.vm_ranges.specs.Request.{Request, IsRequest, MakesConstraint}
-use Rattle.vm_ranges.specs.Windows.{within}
-use Rattle.vm_ranges.specs.declared.constraint.AllocPolicy.TheVariants.{FirstMatch, LastMatch, ExactMatch}
-use Rattle.vm_ranges.specs.declared.error.Error.TheVariants.{OutOfMemory, Overflow, ResourceNotAvailable, InvalidStateTransition}
+use Rattle.vm_ranges.specs.Range.{Range, Covers, IsIn, Overlaps, address_count, MAX}
+use Rattle.vm_ranges.specs.Request.{Request}
+use Rattle.vm_ranges.specs.declared.error.Error.TheVariants.{OutOfMemory}
 use Rattle.vm_ranges.specs.declared.error.Error.{Error}
 use Rattle.vm_ranges.specs.declared.state.NodeState.TheVariants.{Allocated}
-use Rattle.vm_saved_trees.specs.SavedTrees.{Saved}
-use Rattle.vm_tree.specs.GapSearch.{is_misaligned}
 
 -- Two results and the states after them are equal, unless one of the results is OutOfMemory.
 abbrev pub AgreeUnlessMemory : {A S : Type 0} → Result A Error → S → Result A Error → S → Type 0

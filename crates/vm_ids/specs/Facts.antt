@@ -1,17 +1,14 @@
 -- Facts about states and calls of ids, which proofs of calls and laws share.
-use Rattle.serde_json.specs.Data.{Data}
 use Rattle.std.specs.List.Sorted.{IsStrictlySortedBy}
-use Rattle.std.specs.List.{All, AllPairs, Contains, filter}
+use Rattle.std.specs.List.{Contains}
 use Rattle.std.specs.Ordering.{nat_cmp}
-use Rattle.std.specs.Prelude.{◌≡◌, ◌≢◌, ℕ, ◌<◌, ◌≤◌, ◌⊎◌, nat_lt, List, [], ◌∷◌, ◌++◌, length, Result, Ok, Err, ◌↔◌, IsTrue, false}
+use Rattle.std.specs.Prelude.{◌≡◌, ◌≢◌, ℕ, ◌⊎◌, List, [], ◌∷◌, ◌++◌, length, Result, Ok, Err, ◌↔◌}
 use Rattle.vm_ids.specs.FreedLists.{AreFreedOf, PushesId, MakesOfIds}
-use Rattle.vm_ids.specs.Histories.IdHistories.{IdCall, Free, Clone, IsIdCallFrom, IsIdHistoryFrom, AreIdsMade, AreIdsReached, AllocatedTheId, is_allocated_after}
-use Rattle.vm_ids.specs.IdRequests.{Peeks, MakesWithHeldIds, free_ids, AllocatesExactId, AllocatesIdIn, AllocatesIds}
-use Rattle.vm_ids.specs.Ids.{IdState, IsHeld, IsLowestNotHeld, IsIdState, MakesIds, AllocatesId, freed_ids, next_id_of, ids_of, MAX_ID, FreesId, WasEverAllocated, held_count, held_ids, holding_id, PeeksId}
-use Rattle.vm_ids.specs.Values.IdValues.{EncodesIds}
+use Rattle.vm_ids.specs.Histories.IdHistories.{IsIdCallFrom}
+use Rattle.vm_ids.specs.IdRequests.{Peeks, MakesWithHeldIds, AllocatesExactId, AllocatesIdIn}
+use Rattle.vm_ids.specs.Ids.{IdState, IsHeld, IsIdState, MakesIds, AllocatesId, freed_ids, next_id_of, ids_of, WasEverAllocated, held_count, held_ids, holding_id, PeeksId}
 use Rattle.vm_ids.specs.declared.id_request.IdRequest.TheVariants.{Lowest, LowestIn, Exact}
 use Rattle.vm_ids.specs.declared.id_request.IdRequest.{IdRequest}
-use Rattle.vm_ranges.specs.Cloning.{Clones}
 use Rattle.vm_ranges.specs.Histories.{EveryCallIsAnswered}
 use Rattle.vm_ranges.specs.declared.error.Error.TheVariants.{OutOfMemory}
 use Rattle.vm_ranges.specs.declared.error.Error.{Error}

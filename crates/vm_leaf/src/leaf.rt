@@ -266,7 +266,7 @@ impl Leaf {
 
     /// Returns the last address of block `i`.
     #[inline(always)]
-    #[tactic(auto, using(crate::proofs::Fields::length_of))]
+    #[tactic(auto, using(crate::proofs::Fields::length_of, crate::proofs::Fields::end_is))]
     fn end_at(&self, i: usize) -> u64
         requires { i < length self.now }
         ensures { result ≡ (nth self.now i).key.end }

@@ -1,8 +1,7 @@
 -- The values that are null.
-use Rattle.std.proofs.Common.{◌≡◌, ℕ, true, false, Some, is_some, refl}
+use Rattle.std.proofs.Common.{◌≡◌, true, is_some, refl}
 use Rattle.serde_json.specs.Data.{Data, null, boolean, number, string, array, object}
 use Rattle.serde_json.specs.Find.{as_null}
-use Rattle.vm_ranges.specs.Fields.{field_count}
 
 -- Only null is read as null.
 pub null_of : (d : Data) → is_some (as_null d) ≡ true → d ≡ null

@@ -1,9 +1,8 @@
 -- The members of a set of numbers, and of the set after a number is inserted or removed.
-use Rattle.std.proofs.Common.{◌≡◌, ℕ, ◌⊎◌, Bool, true, false, cond, not, refl, sym, ap, ◌∙◌, inl, inr, ⊎_elim, IsTrue}
-use Rattle.std.proofs.lemmas.Bool.{both_ways, and_parts, or_cases, and_from, or_left, or_right, not-true, eq-eqb, eqb-true, ne_eqb}
+use Rattle.std.proofs.Common.{◌≡◌, ℕ, Bool, true, false, not, refl, sym, ap, ◌∙◌, IsTrue}
+use Rattle.std.proofs.lemmas.Bool.{both_ways, and_parts, and_from, or_left, or_right, not-true, eq-eqb, eqb-true, ne_eqb}
 use Rattle.std.specs.Ordering.{nat_cmp, eq_by_cmp}
 use Rattle.std.specs.Cmp.{nat_cmp_total, unsigned_tied}
-use Rattle.std.specs.BTreeSet.{BTreeSet, contains, Updates}
 use Rattle.std.specs.FinSet as set
 
 -- A number is tied with itself.

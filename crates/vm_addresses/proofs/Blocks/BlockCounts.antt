@@ -4,7 +4,7 @@ use Rattle.std.proofs.lemmas.Bool.{cases_lt, lt-ltb, le-ltb, cases_eq, ne_eqb}
 use Rattle.vm_ranges.specs.Range.{Range, IsIn, span}
 use Rattle.vm_ranges.specs.Address.{AddressState, IsClear, with_range, without_range, holding, releasing, AreInOrder, IsAddressState}
 use Rattle.vm_leaf.specs.SpaceBlocks.{blocks_between, gap_before, blocks_of}
-use Rattle.vm_ranges.specs.declared.state.NodeState.TheVariants.{Allocated, Free}
+use Rattle.vm_ranges.specs.declared.state.NodeState.TheVariants.{Allocated}
 use Rattle.vm_addresses.specs.Facts.{block_count, IsOneIf, AreClearBeside}
 use Rattle.vm_addresses.proofs.Results.AddressResults.{gets, lies_clear, freed_held}
 use Rattle.vm_ranges.proofs.PlainWords.{IsHeldAddress, IsHeld, all_miss, none_holds}

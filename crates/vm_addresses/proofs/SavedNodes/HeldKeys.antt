@@ -1,7 +1,7 @@
 -- The keys of a saved tree as held ranges of a space.
 use Rattle.std.proofs.Common.{◌≡◌, List, length, sym, ap, ◌∙◌, subst, arith}
 use Rattle.vm_ranges.specs.Range.{Range, IsRange}
-use Rattle.vm_ranges.specs.Address.{AddressState, AreInOrder}
+use Rattle.vm_ranges.specs.Address.{AreInOrder}
 use Rattle.vm_leaf.specs.SpaceBlocks.{blocks_of}
 use Rattle.vm_leaf.proofs.Spaces.BlockStates.{keys_in_order, is_state}
 use Rattle.vm_leaf.proofs.Spaces.Tilings.{tiling_blocks}

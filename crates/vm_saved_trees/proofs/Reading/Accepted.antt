@@ -1,5 +1,5 @@
 -- The values that encode a tree that is accepted are read, and no others.
-use Rattle.std.proofs.Common.{◌≡◌, ◌∙◌, List, Option, Result, Ok, Err, true, false, ap, sym, subst}
+use Rattle.std.proofs.Common.{◌≡◌, List, Option, true, false, subst}
 use Rattle.serde_json.specs.Data.{Data}
 use Rattle.vm_ranges.specs.Range.{Range, IsRange}
 use Rattle.vm_ranges.specs.Address.{AddressState}

@@ -1,14 +1,13 @@
 -- The values that encode a tree of a space are read, and no others.
-use Rattle.std.proofs.Common.{◌≡◌, false, Option, sym, ap, ◌∙◌, subst, arith, List}
+use Rattle.std.proofs.Common.{◌≡◌, Option, sym, ap, ◌∙◌, subst, arith, List}
 use Rattle.serde_json.specs.Data.{Data}
 use Rattle.vm_ranges.specs.Range.{Range, MAX, IsRange}
 use Rattle.vm_ranges.specs.declared.state.NodeState.TheVariants.{Allocated}
 use Rattle.vm_ranges.specs.Address.{AddressState, IsAddressState}
-use Rattle.vm_saved_trees.specs.Spans.{StandsFor, is_tree_of}
-use Rattle.vm_saved_trees.specs.ValueNodes.{EncodesSaved, IsSavedIn}
+use Rattle.vm_saved_trees.specs.ValueNodes.{IsSavedIn}
 use Rattle.vm_leaf.specs.SpaceBlocks.{TilesSpace, held_of}
 use Rattle.vm_saved_trees.specs.NodeTree.{NodeTree, node_blocks}
-use Rattle.vm_saved_trees.specs.SavedTrees.{Saved, saved_blocks, IsReadable, HasTreeOf}
+use Rattle.vm_saved_trees.specs.SavedTrees.{Saved, saved_blocks, IsReadable}
 use Rattle.vm_saved_trees.specs.TreeValues.{EncodesSpaceTree}
 use Rattle.vm_saved_trees.specs.declared.span.Span.{Span}
 use Rattle.vm_leaf.proofs.Spaces.BlockStates.{tiles_keys, is_state}
@@ -17,7 +16,7 @@ use Rattle.vm_saved_trees.proofs.SavedNodes.KeyLists.{keys_within}
 use Rattle.vm_saved_trees.proofs.SavedNodes.Roots.{state_with}
 use Rattle.vm_saved_trees.proofs.SavedNodes.Spans.{complete}
 use Rattle.vm_saved_trees.proofs.SavedNodes.ValueLaws.{strict_nodes}
-use Rattle.vm_saved_trees.proofs.SavedNodes.ValueTrees.{ranges_saved, one_saved}
+use Rattle.vm_saved_trees.proofs.SavedNodes.ValueTrees.{ranges_saved}
 
 -- A value that encodes a tree of the space is read.
 pub saved_in : (d : Data) (space : Range) (state : AddressState) → IsRange space.start space.end → EncodesSpaceTree d space state →

@@ -1,5 +1,5 @@
 -- The values that encode the held ranges of a space by their keys are read, and no others.
-use Rattle.std.proofs.Common.{◌≡◌, ◌≤◌, false, List, length, Option, sym, ap, ◌∙◌, subst, arith}
+use Rattle.std.proofs.Common.{◌≡◌, ◌≤◌, List, length, Option, sym, ap, ◌∙◌, subst, arith}
 use Rattle.serde_json.specs.Data.{Data}
 use Rattle.vm_ranges.specs.Range.{Range, MAX, IsRange}
 use Rattle.vm_ranges.specs.Address.{AddressState, IsAddressState, AreInOrder}
@@ -8,9 +8,8 @@ use Rattle.vm_leaf.specs.SpaceBlocks.{held_of, TilesSpace}
 use Rattle.vm_saved_trees.specs.NodeTree.{NodeTree, node_blocks}
 use Rattle.vm_saved_trees.specs.TreeValues.{EncodesSpaceTree}
 use Rattle.vm_saved_trees.specs.KeyValues.{EncodesKeys}
-use Rattle.vm_saved_trees.specs.SavedTrees.{Saved, IsReadable, HasHeldKeys}
-use Rattle.vm_saved_trees.specs.Spans.{StandsFor, is_inside}
-use Rattle.vm_saved_trees.specs.ValueNodes.{EncodesSaved, IsSavedIn}
+use Rattle.vm_saved_trees.specs.SavedTrees.{Saved, IsReadable}
+use Rattle.vm_saved_trees.specs.ValueNodes.{IsSavedIn}
 use Rattle.vm_saved_trees.specs.declared.span.Span.{Span}
 use Rattle.vm_ranges.specs.declared.state.NodeState.TheVariants.{Allocated}
 use Rattle.vm_leaf.proofs.Spaces.BlockStates.{tiles_keys, keys_in_order}
@@ -18,7 +17,7 @@ use Rattle.vm_saved_trees.proofs.Reading.ReadNodes.{shape_nodes, one_tree}
 use Rattle.vm_saved_trees.proofs.SavedNodes.KeyLists.{keys_within}
 use Rattle.vm_saved_trees.proofs.SavedNodes.Spans.{complete}
 use Rattle.vm_saved_trees.proofs.SavedNodes.Roots.{state_with}
-use Rattle.vm_saved_trees.proofs.SavedNodes.ValueTrees.{nodes_saved, ranges_saved, one_saved}
+use Rattle.vm_saved_trees.proofs.SavedNodes.ValueTrees.{nodes_saved, ranges_saved}
 
 -- A value that encodes the keys of the space is read.
 pub saved_in : (d : Data) (space : Range) (state : AddressState) → space.end ≤ MAX → EncodesKeys d space state →

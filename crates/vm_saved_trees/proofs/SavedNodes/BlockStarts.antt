@@ -1,15 +1,14 @@
 -- The blocks of a saved tree, kept as their starts.
-use Rattle.std.proofs.Common.{◌≡◌, ℕ, suc, ◌+◌, ◌*◌, ◌^◌, ◌-◌, ◌≤◌, ◌<◌, List, [], ◌∷◌, ◌++◌, length, refl, sym, ap, ◌∙◌, subst, IsTrue, ◌↔◌, ◌==◌, arith, rules}
+use Rattle.std.proofs.Common.{◌≡◌, ℕ, suc, ◌+◌, ◌*◌, ◌^◌, ◌-◌, ◌≤◌, ◌<◌, List, [], ◌∷◌, ◌++◌, length, refl, ap, ◌∙◌, subst, IsTrue, ◌↔◌, ◌==◌, arith, rules}
 use Rattle.std.proofs.Math.Nat.{pow-suc}
 use Rattle.vm_ranges.specs.Range.{IsRange, MAX}
 use Rattle.vm_ranges.specs.declared.state.NodeState.{NodeState}
-use Rattle.vm_ranges.specs.declared.state.NodeState.TheVariants.{Allocated}
 use Rattle.vm_leaf.specs.declared.block.Block.{Block}
 use Rattle.vm_leaf.specs.declared.block.BlockStart.{BlockStart}
 use Rattle.vm_leaf.specs.Blocks.{Tiles}
 use Rattle.vm_leaf.specs.BlockStarts.{starts_of, last_before, blocks_from, AreRanges}
 use Rattle.vm_leaf.specs.TreeHeights.{IsLowestHeight}
-use Rattle.vm_leaf.specs.SpaceBlocks.{AreKeysIn, TilesSpace}
+use Rattle.vm_leaf.specs.SpaceBlocks.{AreKeysIn}
 use Rattle.vm_leaf.proofs.Spaces.BlockStates.{tiles_keys}
 
 -- Consecutive blocks are those with their starts.

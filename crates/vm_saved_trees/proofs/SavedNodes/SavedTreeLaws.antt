@@ -1,5 +1,5 @@
 -- Nodes that are written for blocks.
-use Rattle.std.proofs.Common.{◌≡◌, List, Option, Some, None}
+use Rattle.std.proofs.Common.{List, Some}
 use Rattle.vm_leaf.specs.declared.block.Block.{Block}
 use Rattle.vm_saved_trees.specs.SavedTrees.{Saved, Node}
 use Rattle.vm_saved_trees.specs.WrittenTrees.{IsWritten, WritesNode}

@@ -1,9 +1,8 @@
 -- A value is accepted if and only if the span of its root is. The prover does not name the saved tree that was read.
-use Rattle.std.proofs.Common.{◌≡◌, ◌∙◌, true, false, Option, Err, sym, rules, refl}
+use Rattle.std.proofs.Common.{◌≡◌, ◌∙◌, Err, sym, rules, refl}
 use Rattle.serde_json.specs.View.{view}
 use Rattle.vm_ranges.specs.declared.saved.ValueError.TheVariants.{OutOfMemory}
 use Rattle.vm_saved_trees.specs.SavedTrees.{held_keys}
-use Rattle.vm_saved_trees.specs.Spans.{is_accepted}
 use Rattle.vm_saved_trees.proofs.Reading.Accepted.{unread, not_read, keys_held, keys_read}
 use Rattle.vm_saved_trees.proofs.SavedNodes.Roots.{state_with}
 use Rattle.vm_saved_trees.proofs.tree.read_held_keys.Goals as goal

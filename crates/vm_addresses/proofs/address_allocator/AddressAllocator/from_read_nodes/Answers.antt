@@ -1,5 +1,5 @@
 -- The keys of an accepted tree can be held in the space. The prover does not name this saved tree.
-use Rattle.std.proofs.Common.{◌≡◌, ◌∙◌, Err, arith, rules, sym}
+use Rattle.std.proofs.Common.{◌≡◌, Err, arith, rules}
 use Rattle.vm_ranges.specs.Range.{IsRange}
 use Rattle.vm_ranges.specs.declared.saved.SavedError.TheVariants.{OutOfMemory}
 use Rattle.vm_saved_trees.specs.NodesRead.{condition_of}

@@ -1,13 +1,10 @@
 -- The kept keys are those of each tree that the root's span stands for. The prover does not build a fact about every tree.
-use Rattle.std.proofs.Common.{◌≡◌, ◌∙◌, true, false, [], Option, None, Ok, Err, sym, ap, subst, refl, arith}
-use Rattle.vm_ranges.specs.Range.{IsRange}
-use Rattle.vm_ranges.specs.declared.saved.Condition.{Condition}
-use Rattle.vm_ranges.specs.declared.saved.SavedError.TheVariants.{Violated}
-use Rattle.vm_saved_trees.specs.NodesRead.{MakesOfNodes, condition_of}
+use Rattle.std.proofs.Common.{◌≡◌, ◌∙◌, true, false, Option, sym, ap, refl}
+use Rattle.vm_saved_trees.specs.NodesRead.{condition_of}
 use Rattle.vm_saved_trees.specs.SavedTrees.{HasHeldAs}
 use Rattle.vm_saved_trees.specs.Spans.{is_accepted}
 use Rattle.vm_saved_trees.specs.declared.span.Span.{Span}
-use Rattle.vm_saved_trees.proofs.SavedNodes.Roots.{state_with, accepted, not_accepted, keys_as}
+use Rattle.vm_saved_trees.proofs.SavedNodes.Roots.{not_accepted, keys_as}
 use Rattle.vm_saved_trees.proofs.SavedNodes.WholeTrees.{makes_none, makes_whole, whole_in}
 use Rattle.vm_saved_trees.proofs.nodes.ReadNodes.held_keys.Goals as goal
 
