@@ -14,6 +14,7 @@ ghost use Rattle.vm_addresses.specs.Facts.{EveryAddressCallIsAnswered};
 /// States that in every history `FirstMatch` allocates the lowest place, `LastMatch` the highest
 /// place, and `ExactMatch` the place at its start. If the request has a window, these are the places
 /// in the window.
+#[tactic(auto, using(crate::proofs::AddressProofs::HistoryResults::first_is_lowest, crate::proofs::AddressProofs::HistoryResults::last_is_highest))]
 fn chosen_places_are_allocated()
     ensures first { FirstIsLowest }
     ensures last { LastIsHighest }
@@ -76,6 +77,7 @@ fn clones_are_reached()
 
 /// States that an allocator that was read, with or without repairs, from a value or node by node, is
 /// reached by a history without calls. So what is true for every history is true for it.
+#[tactic(auto, using(crate::proofs::AddressProofs::AddressEnds::read_is_reached, crate::proofs::AddressProofs::AddressEnds::repaired_is_reached, crate::proofs::AddressProofs::AddressEnds::nodes_are_reached, crate::proofs::AddressProofs::AddressEnds::repaired_nodes_are_reached))]
 fn reads_are_reached()
     ensures read { ReadIsReached EncodesAddresses }
     ensures repaired { ReadIsReached EncodesRepaired }
@@ -85,6 +87,7 @@ fn reads_are_reached()
 
 /// States that allocators with the same space and the same allocated ranges are equal. The order
 /// and the kind of the calls before do not matter.
+#[tactic(auto, using(crate::proofs::AddressProofs::AddressEnds::release_makes_equal, crate::proofs::AddressProofs::AddressEnds::order_makes_equal))]
 fn equal_states_are_equal()
     ensures any { EqualStatesAreEqual }
     ensures undone { FreeMakesEqual }

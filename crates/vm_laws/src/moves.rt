@@ -5,6 +5,7 @@ ghost use Rattle.vm_laws.specs.MoveLaws.{MovedIsHeld, OldPlaceIsClear, MoveIsTwo
 
 /// States that a moved range is allocated as requested, and that each address that it had only before is
 /// free.
+#[tactic(auto, using(crate::proofs::AddressProofs::MovedRanges::moved_held))]
 fn moved_ranges_leave_their_place()
     ensures held { MovedIsHeld }
     ensures clear { OldPlaceIsClear }

@@ -62,6 +62,7 @@ fn counts_add_up()
 
 /// States that `held_ranges_in` and `gaps_in` return exactly the ranges that overlap the given range.
 /// If that range is in the space, it is free if and only if `held_ranges_in` returns nothing.
+#[tactic(auto, using(vm_addresses::proofs::Results::Meeting::meeting_is_overlap))]
 fn ranges_meet_windows()
     ensures overlaps { MeetingIsOverlap }
     ensures clear { ClearIfNoneMeets }

@@ -18,7 +18,7 @@ ghost use Rattle.vm_laws.specs.ValueLaws.{
 };
 
 /// States that a value encodes at most one object of each type.
-#[tactic(auto, using(crate::proofs::ValueProofs::ReadAgain::one_object))]
+#[tactic(auto, using(crate::proofs::ValueProofs::ReadAgain::one_object, crate::proofs::ValueProofs::ReadAgain::one_repaired_encoded))]
 fn values_encode_at_most_one()
     ensures ranges { EncodesAtMostOne EncodesRange }
     ensures node_states { EncodesAtMostOne EncodesState }

@@ -15,6 +15,7 @@ ghost use Rattle.vm_laws.specs.SeveralLaws.{
 ///
 /// The allocator is equal to the one that allocated them. If the ranges are ascending, the first one
 /// that cannot be allocated has the error that it would have there.
+#[tactic(auto, using(crate::proofs::AddressProofs::HeldOnes::held_as_allocated, crate::proofs::AddressProofs::HeldOnes::held_is_equal, crate::proofs::AddressProofs::HeldFaults::fault_is_that_of_exact_match))]
 fn held_is_allocated()
     ensures state { HeldAsAllocated }
     ensures equal { HeldIsEqual }
@@ -25,6 +26,7 @@ fn held_is_allocated()
 ///
 /// After an error the state is the one before, the allocator is equal to the one before, and all later
 /// calls have the same results. Only the shape of the tree can differ.
+#[tactic(auto, using(crate::proofs::AddressProofs::SeveralParts::one_is_allocated, crate::proofs::AddressProofs::SeveralParts::parts_are_allocated_in_turn, crate::proofs::AddressProofs::SeveralParts::failure_changes_nothing))]
 fn several_are_allocated_in_turn()
     ensures one { OneIsAllocated }
     ensures parts { PartsAreAllocatedInTurn }

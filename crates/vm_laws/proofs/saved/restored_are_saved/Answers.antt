@@ -1,3 +1,4 @@
+-- A restored object is the saved one, and has its histories. The prover does not find these lemmas, even if the function names them.
 use Rattle.vm_laws.proofs.ValueProofs.Restored.{allocator_restored, ids_restored, nodes_restored}
 use Rattle.vm_laws.proofs.saved.restored_are_saved.Goals as goal
 

@@ -1,8 +1,5 @@
-use Rattle.vm_laws.proofs.ValueProofs.ReadAgain.{one_ids_encoded, one_repaired_encoded}
+use Rattle.vm_laws.proofs.ValueProofs.ReadAgain.{one_ids_encoded}
 use Rattle.vm_laws.proofs.saved.values_encode_at_most_one.Goals as goal
 
 pub returns-clause-id_allocators : goal.returns-clause-id_allocators
 returns-clause-id_allocators c = one_ids_encoded
-
-pub returns-clause-repaired : goal.returns-clause-repaired
-returns-clause-repaired c = one_repaired_encoded
