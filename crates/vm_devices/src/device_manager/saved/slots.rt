@@ -15,6 +15,7 @@ use vm_addresses::{Result, ValueError};
 use vm_ranges::{has_fields, range_in, u32_in};
 
 /// Encodes the devices as a list.
+#[tactic(auto, using(vm_ranges::proofs::Lists::encodes_more))]
 pub(super) fn encode_slots(alloc: Global, devices: Devices<'_>) -> Result<Value>
     ensures { Saves (λ d. EncodesList d (map entry_of devices.entry)) result }
 {

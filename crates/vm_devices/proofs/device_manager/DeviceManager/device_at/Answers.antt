@@ -1,3 +1,4 @@
+-- A held range has a device with its start, so an id is found. The prover does not rewrite the start of the range in these facts.
 use Rattle.std.proofs.Common.{◌≡◌, refl, Some, None, rules}
 use Rattle.vm_devices.proofs.DeviceStarts.{device_found, device_missed}
 use Rattle.vm_devices.proofs.device_manager.DeviceManager.device_at.Goals as goal

@@ -1,3 +1,4 @@
+-- There are as many devices as held ids. The prover does not replace the manager by its parts to join the equal numbers.
 use Rattle.std.proofs.Common.{sym, ap, ◌∙◌}
 use Rattle.vm_devices.specs.Manager.{DevicesInTree, device_state}
 use Rattle.vm_devices.specs.Queries.{device_count}

@@ -1,3 +1,4 @@
+-- An error of a part, or the manager made of all parts, is the result for the value. The prover does not rewrite the results of the parts.
 use Rattle.std.proofs.Common.{◌≡◌, List, sym, subst, Ok, Err, rules}
 use Rattle.serde_json.specs.View.{items_view}
 use Rattle.serde_json.specs.declared.value.Value.{Value}

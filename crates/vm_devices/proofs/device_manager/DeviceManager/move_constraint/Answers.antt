@@ -1,3 +1,4 @@
+-- The device gets the new range, or the move is undone. The prover does not replace the manager by its parts in the facts on its state.
 use Rattle.std.proofs.Common.{◌≡◌, ℕ, sym, ap, ◌∙◌, subst, Some, Err, IfSome, rules}
 use Rattle.std.specs.Ordering.{nat_cmp}
 use Rattle.std.specs.FinMap as map

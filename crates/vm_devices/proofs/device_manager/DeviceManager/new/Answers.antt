@@ -1,3 +1,4 @@
+-- A new manager has no device, no held id and no held range. The prover does not join the two lemmas on its state.
 use Rattle.std.proofs.Common.{arith}
 use Rattle.vm_devices.proofs.DeviceCalls.{manager_made, made_state}
 use Rattle.vm_devices.proofs.device_manager.DeviceManager.new.Goals as goal

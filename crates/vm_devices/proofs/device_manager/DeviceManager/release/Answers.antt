@@ -1,3 +1,4 @@
+-- The id and the range of the device are freed. The prover does not name this range, nor replace the manager by its parts.
 use Rattle.std.proofs.Common.{◌≡◌, sym, ap, ◌∙◌, Err, rules}
 use Rattle.std.specs.FinMap as map
 use Rattle.vm_addresses.specs.Allocator.{state_of}

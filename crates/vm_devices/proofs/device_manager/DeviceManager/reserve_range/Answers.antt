@@ -1,3 +1,4 @@
+-- The device gets the id and the range, or the range is freed again. The prover does not replace the manager by its parts.
 use Rattle.std.proofs.Common.{◌≡◌, ap, refl, Err, rules}
 use Rattle.vm_addresses.specs.Allocator.{state_of}
 use Rattle.vm_devices.specs.Devices.{devices_of}

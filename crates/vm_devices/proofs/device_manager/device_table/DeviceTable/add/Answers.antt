@@ -1,3 +1,4 @@
+-- The id and the start of the device are new to the table. The prover does not rewrite the two lists as maps.
 use Rattle.std.proofs.Common.{ap, ◌∙◌}
 use Rattle.std.specs.FinMap as map
 use Rattle.vm_devices.proofs.Tables.{inserted_map, id_is_new, start_is_new, starts_with, starts_undone}

@@ -1,3 +1,4 @@
+-- The list by start has the id of the device that starts there. The prover does not rewrite what was found in the invariant.
 use Rattle.std.proofs.Common.{ap, sym, ◌∙◌, option_map}
 use Rattle.vm_devices.proofs.device_manager.device_table.DeviceTable.id_at.Goals as goal
 

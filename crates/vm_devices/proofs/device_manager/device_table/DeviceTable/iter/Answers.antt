@@ -1,3 +1,4 @@
+-- The list has the devices of the map, in order of their ids. The prover does not join these equations of lists.
 use Rattle.std.proofs.Common.{length, sym, ap, ◌∙◌, map as map_list}
 use Rattle.std.specs.FinMap as map
 use Rattle.std.proofs.lemmas.List.{length-map}

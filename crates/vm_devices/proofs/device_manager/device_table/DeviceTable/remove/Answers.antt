@@ -1,3 +1,4 @@
+-- The start of the device is removed with its id. The prover does not rewrite the two lists as maps.
 use Rattle.std.proofs.Common.{ap, sym, ◌∙◌, option_map}
 use Rattle.std.specs.FinMap as map
 use Rattle.vm_devices.proofs.Tables.{got, removed_map, starts_without, starts_stay}

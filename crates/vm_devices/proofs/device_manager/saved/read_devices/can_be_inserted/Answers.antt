@@ -1,3 +1,4 @@
+-- A device can be inserted if its id and its range are held. The prover does not distinguish which part of the test decided.
 use Rattle.std.proofs.Common.{sym, ◌∙◌}
 use Rattle.vm_addresses.specs.Allocator.{state_of}
 use Rattle.vm_devices.proofs.PairedDevices.{start_tested}

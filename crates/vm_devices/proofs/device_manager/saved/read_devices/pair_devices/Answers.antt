@@ -1,3 +1,4 @@
+-- The devices so far are in the table, and the counts show that no id or range is left. The prover does not distinguish which count differs.
 use Rattle.std.proofs.Common.{◌≤◌, length, arith, refl, sym, ◌∙◌}
 use Rattle.vm_devices.proofs.PairedDevices.{none_so_far, other_ids_held, other_ranges_held, all_can_be_inserted, is_new, one_paired, all_in_pairs}
 use Rattle.vm_devices.proofs.device_manager.saved.read_devices.pair_devices.Goals.{

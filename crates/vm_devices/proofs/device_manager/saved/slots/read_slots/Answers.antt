@@ -1,3 +1,4 @@
+-- The next item encodes a device, or the list encodes none. The lemmas on the items so far need arguments that the prover does not find.
 use Rattle.std.proofs.Common.{◌≡◌, Err, sym, rules}
 use Rattle.vm_ranges.specs.Saving.{value_error}
 use Rattle.vm_devices.proofs.SavedManagers.{no_device, one_read, push_refused}
