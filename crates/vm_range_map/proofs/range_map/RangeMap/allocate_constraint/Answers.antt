@@ -1,3 +1,4 @@
+-- The range gets its value, or it is freed again. The prover does not replace the map by its parts in the facts on its state.
 use Rattle.std.proofs.Common.{◌≡◌, sym, ap, subst, Err, rules}
 use Rattle.vm_ranges.specs.declared.error.Error.TheVariants.{OutOfMemory}
 use Rattle.vm_tree.specs.Shape.{Shape}

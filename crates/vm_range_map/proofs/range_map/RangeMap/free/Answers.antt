@@ -1,3 +1,4 @@
+-- The range is freed and its value removed. The prover does not replace the map by its parts in the facts on its state.
 use Rattle.std.proofs.Common.{sym, subst}
 use Rattle.vm_addresses.specs.Allocator.{state_of}
 use Rattle.vm_range_map.specs.RangeMaps.{MapState, IsMapState, map_of}

@@ -1,3 +1,4 @@
+-- Each held range has a value, and both lists have the same order. The prover does not pair two lists, and a lemma by induction does.
 use Rattle.std.proofs.Common.{◌∙◌}
 use Rattle.vm_addresses.specs.Allocator.{state_of}
 use Rattle.vm_range_map.specs.RangeMaps.{MapState, map_of}

@@ -1,3 +1,4 @@
+-- The value moves with its range, or the move is undone. The prover does not name the value that the range had.
 use Rattle.std.proofs.Common.{◌≡◌, sym, ap, ◌∙◌, subst, Err, IfSome, rules}
 use Rattle.vm_ranges.specs.Range.{Range, Covers}
 use Rattle.vm_ranges.specs.declared.error.Error.TheVariants.{OutOfMemory}
@@ -36,7 +37,7 @@ pub returns-in-Err-clause-unchanged : goal.returns-in-Err-clause-unchanged
 returns-in-Err-clause-unchanged c = rw (← c.self.view_is) (cancelled c)
 
 pub returns-in-Err-clause-state : goal.returns-in-Err-clause-state
-returns-in-Err-clause-state c = subst IsMapState (sym (cancelled c)) c.self.invariant
+returns-in-Err-clause-state c = invariant_of-self-in-Err c
 
 pub returns-in-Err-clause-answer : goal.returns-in-Err-clause-answer
 returns-in-Err-clause-answer c =

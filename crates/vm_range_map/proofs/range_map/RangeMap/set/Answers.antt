@@ -1,3 +1,4 @@
+-- Only the value of the range at the address changes. The prover does not replace the map by its parts in the facts on its state.
 use Rattle.std.proofs.Common.{sym, ap, ◌∙◌, subst}
 use Rattle.std.specs.FinMap as map
 use Rattle.vm_addresses.specs.Allocator.{state_of}

@@ -1,3 +1,4 @@
+-- Equal spaces and equal lists of ranges and values are equal maps. The lemma on lists takes a function, which the prover does not find.
 use Rattle.std.proofs.Common.{ap, refl, arith}
 use Rattle.std.proofs.lemmas.Bool.{both_ways}
 use Rattle.vm_addresses.proofs.Comparing.Items.{same_items}

@@ -1,3 +1,4 @@
+-- The last range and the last value are a pair. The prover does not split two lists of the same length at their ends.
 use Rattle.std.proofs.Common.{arith, sym, ap, ◌∙◌, length}
 use Rattle.std.proofs.lemmas.List.{length_push}
 use Rattle.vm_range_map.proofs.ValuedLists.{pair_back}

@@ -1,3 +1,4 @@
+-- The value is inserted at the new start before the old entry is removed. The prover does not exchange these two steps.
 use Rattle.std.proofs.Common.{◌≡◌, ℕ, ap, ◌∙◌}
 use Rattle.std.specs.Ordering.{nat_cmp}
 use Rattle.std.specs.FinMap as map
