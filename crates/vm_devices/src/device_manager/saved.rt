@@ -28,6 +28,7 @@ impl DeviceManager {
     /// # Errors
     ///
     /// - `OutOfMemory` if an allocation fails.
+    #[tactic(auto, using(crate::proofs::SavedManagers::manager_written))]
     pub fn to_value(&self, alloc: Global) -> Result<Value>
         ensures answer { Saves (λ d. EncodesManager d (device_state self.now)) result }
         // The blocks decide the saved tree.

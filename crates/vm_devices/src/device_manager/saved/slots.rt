@@ -44,6 +44,7 @@ fn slot_object(alloc: Global, id: u32, range: Value) -> std::result::Result<Valu
 
 /// Reads the devices of a list. Returns `NotAState` if an item is not a device, or if the ids are
 /// not in strictly ascending order.
+#[tactic(auto, using(crate::proofs::SavedManagers::no_device, crate::proofs::SavedManagers::one_read, crate::proofs::SavedManagers::push_refused))]
 pub(super) fn read_slots(
     alloc: Global,
     list: &[Value],

@@ -8,6 +8,7 @@ use Rattle.vm_addresses.proofs.Results.Conflicts.{move_decides, first_in_the_way
 use Rattle.vm_addresses.proofs.Trees.Spaces.{state_of_tree}
 use Rattle.vm_addresses.proofs.address_allocator.AddressAllocator.move_conflict.Goals as goal
 
+-- The conflict is the right one after the range that moves is freed.
 by_held : (c : goal.After-conflict_beside) → IsMoveConflict (state_of c.args.self.now) c.args.key.now c.args.request c.conflict_beside.result
 by_held c =
     let state = state_of c.args.self.now in

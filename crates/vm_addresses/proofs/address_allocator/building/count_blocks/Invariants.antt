@@ -1,4 +1,4 @@
--- The invariant of the loop: the blocks and free addresses so far and those of the rest are all.
+-- The invariant of the loop: the blocks and the free addresses so far, with those of the rest, are those of the space.
 -- The prover guesses no invariant.
 use Rattle.std.proofs.Common.{◌≡◌, ◌≤◌, ◌+◌, ◌*◌, length, drop}
 use Rattle.vm_ranges.specs.Address.{AreInOrder}

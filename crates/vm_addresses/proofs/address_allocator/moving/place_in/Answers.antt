@@ -10,6 +10,7 @@ found : (c : goal.After-size) → FindsStart (part_for c.args.request c.args.gap
 found c = start_in_part c.args.gap.now c.args.request c.window.result c.ends_in-low.result.0 c.ends_in-low.result.1 (Some c.in_ok-start.start)
     c.window.ensures c.ends_in-low.ensures.ends c.in_ok-start.ensures.found
 
+-- The start that is found and the last address of its range are the ends of a range.
 range : (c : goal.After-size) → IsRange c.in_ok-start.start (c.in_ok-start.start + (c.size.result - 1))
 range c = rw c.size.ensures.value (fit_range c.args.gap.now c.args.request c.in_ok-start.start c.ends_in-low.ensures.range c.size.ensures.valid.some (found c))
 
