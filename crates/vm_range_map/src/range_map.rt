@@ -63,7 +63,7 @@ impl RangeMap {
     /// - `Underflow` if `size` is 0.
     /// - `Overflow` if the last address would be past `u64::MAX`.
     /// - `OutOfMemory` if an allocation fails.
-    #[tactic(auto, using(crate::proofs::MapCalls::makes))]
+    #[tactic(auto, using(crate::proofs::MapCalls::makes, crate::proofs::MapCalls::new_state))]
     pub fn new(alloc: Global, base: u64, size: u64) -> Result<Self>
         ensures answer { MakesMap base size (made_map result) }
         ensures state { IfOk result (λ m. IsMapState (map_state m)) }

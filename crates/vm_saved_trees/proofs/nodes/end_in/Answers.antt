@@ -1,4 +1,4 @@
--- The node gets its place in its parent, and its key that in the list. The prover does not rewrite along the equations of the lists.
+-- The node joins its parent, and its key is inserted in order. The prover does not rewrite along the equations of the lists.
 use Rattle.std.proofs.Common.{◌≡◌, [], ◌∷◌, ◌++◌, List, length, take, drop, Some, Err, true, false, is_some, sym, ◌∙◌, ap, rules, arith}
 use Rattle.std.proofs.lemmas.List.{take_at}
 use Rattle.vm_ranges.specs.declared.saved.SavedError.TheVariants.{OutOfMemory}

@@ -1,4 +1,4 @@
--- A child is set in the last of the nested nodes. That the last index has the innermost node is a lemma by induction.
+-- A child is set in the last of the nested nodes. A lemma by induction shows that the last index has this node.
 use Rattle.std.proofs.Common.{ap, sym, ◌∙◌, arith}
 use Rattle.vm_saved_trees.specs.NodesRead.{with_span}
 use Rattle.vm_saved_trees.specs.declared.nodes.Children.{Children}

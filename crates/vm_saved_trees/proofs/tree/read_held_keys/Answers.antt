@@ -1,4 +1,4 @@
--- A value is accepted if and only if the span of its root is. The prover does not name the saved tree that was read.
+-- A value is accepted if and only if the span of its root is accepted. The prover does not name the saved tree that was read.
 use Rattle.std.proofs.Common.{◌≡◌, ◌∙◌, Err, sym, rules, refl}
 use Rattle.serde_json.specs.View.{view}
 use Rattle.vm_ranges.specs.declared.saved.ValueError.TheVariants.{OutOfMemory}

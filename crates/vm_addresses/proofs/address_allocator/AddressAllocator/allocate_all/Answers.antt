@@ -1,4 +1,4 @@
--- After an error the ranges so far are freed, so the state is that before the call. The prover does not rewrite along equal states.
+-- An error frees the ranges so far, so the state is the same as before the call. The prover does not rewrite along equal states.
 use Rattle.std.proofs.Common.{◌≡◌, ◌+◌, take, sym, ap, subst, arith, inr, Ok}
 use Rattle.vm_ranges.specs.Range.{Range}
 use Rattle.std.specs.Prelude.{List}

@@ -1,4 +1,4 @@
--- The move goes to a closer range if one is free, else into the gap. The prover does not rewrite along the error and the equal trees.
+-- The move goes to a closer range if one is free, otherwise into the gap. The prover does not rewrite along the error and equal trees.
 use Rattle.std.proofs.Common.{◌≡◌, ◌-◌, length, sym, subst, Ok, Err}
 use Rattle.vm_ranges.specs.Range.{Range}
 use Rattle.vm_ranges.specs.declared.error.Error.{Error}

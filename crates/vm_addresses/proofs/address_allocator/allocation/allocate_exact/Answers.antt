@@ -1,4 +1,4 @@
--- The result is right for every request of which the search can be. The prover applies no lemma to an arbitrary request.
+-- The result is right for every request that leads to this search. The prover applies no lemma to an arbitrary request.
 use Rattle.std.proofs.Common.{◌≡◌, ◌<◌, arith, refl, ◌∙◌, ⊎_elim}
 use Rattle.vm_ranges.specs.Range.{span}
 use Rattle.vm_ranges.proofs.RangeCalls.{same_range}

@@ -1,4 +1,4 @@
--- The number of free addresses fits. That the rest of the ranges has at most the addresses of all ranges is a lemma by induction.
+-- The number of free addresses fits. A lemma by induction shows that the rest of the ranges has at most the addresses of all.
 use Rattle.std.proofs.Common.{arith}
 use Rattle.vm_addresses.proofs.Trees.CountedTrees.{count_dropped}
 use Rattle.vm_addresses.proofs.address_allocator.building.count_blocks.Goals as goal

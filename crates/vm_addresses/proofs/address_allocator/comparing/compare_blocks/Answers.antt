@@ -1,4 +1,4 @@
--- The walks are compared as their lists of blocks. The lemma on such orders takes functions, which the prover does not find.
+-- The walks are compared as their lists of blocks. The lemma on the order of lists takes functions, which the prover does not find.
 use Rattle.std.proofs.Common.{◌≡◌, List, refl}
 use Rattle.std.proofs.lemmas.Iterator.Consumers.{YieldsList-from_first}
 use Rattle.std.proofs.lemmas.Iterator.Search.{cmp_from_yields_List}

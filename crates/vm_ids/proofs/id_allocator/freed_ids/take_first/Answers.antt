@@ -1,4 +1,4 @@
--- The first run that is left is the kept one, or that of the list. The prover does not rewrite the runs that are left in each case.
+-- The first run that is left is the stored run, or else the first of the list. The prover does not rewrite the list in each case.
 use Rattle.std.proofs.Common.{None, Option, List, ap, ◌∙◌}
 use Rattle.vm_chunks.specs.declared.id_set.Run.{Run}
 use Rattle.vm_ids.specs.Checks.IdQueries.{runs_left}

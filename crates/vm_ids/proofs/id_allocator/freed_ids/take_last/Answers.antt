@@ -1,4 +1,4 @@
--- The last run that is left is the kept one, or that of the list. The prover does not move the brackets of joined lists.
+-- The last run that is left is the stored run, or else the last of the list. The prover does not move the brackets of joined lists.
 use Rattle.std.proofs.Common.{None, Option, List, [], ◌∷◌, ◌++◌, option_to_list, ap, sym, ◌∙◌}
 use Rattle.std.proofs.lemmas.List.{append-nil, append_assoc}
 use Rattle.vm_chunks.specs.declared.id_set.Run.{Run}

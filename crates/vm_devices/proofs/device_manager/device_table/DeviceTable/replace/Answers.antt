@@ -1,4 +1,4 @@
--- The range of the device starts elsewhere, or at the same address. The prover does not distinguish these cases after they meet.
+-- The range of the device starts elsewhere, or at the same address. The prover does not distinguish these cases after the branches join.
 use Rattle.std.proofs.Common.{ap, ◌∙◌}
 use Rattle.std.specs.FinMap as map
 use Rattle.vm_devices.proofs.Tables.{inserted_map, id_is_known, next_start_is_new, starts_kept, starts_moved}
