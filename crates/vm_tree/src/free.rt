@@ -39,6 +39,7 @@ pub(crate) struct Gap {
 
 /// Frees the block at an index, and joins it with the gaps on both sides.
 #[inline(always)]
+#[tactic(auto, using(crate::proofs::Frees::freed_fewer, crate::proofs::Frees::freed_gap))]
 fn join_at(leaf: &mut Leaf, i: usize) -> Gap
     requires within { i < length leaf.old }
     requires held { (nth leaf.old i).state ≡ Allocated }

@@ -39,7 +39,7 @@ fn fit_in(leaf: &Leaf, end: End, search: &Search) -> Option<Fit>
 
 /// Returns the place of a search that is closest to an end of a leaf, or `None` if there is none.
 #[inline(always)]
-#[tactic(auto, using(crate::proofs::Searched::places))]
+#[tactic(auto, using(crate::proofs::Searched::places, crate::proofs::Searched::closest_place))]
 fn place_in(leaf: &Leaf, end: End, search: &Search) -> Option<Place>
     requires search { IsSearch search.now }
     ensures { MatchOption result (HasNoPlace search.now leaf.now) (IsClosestLeafPlace end search.now leaf.now) }

@@ -1,3 +1,4 @@
+-- Each child gets half of the leaves, with their blocks, and the heights fit. The prover does not compute with halves and with products.
 use Rattle.std.proofs.Common.{◌/◌, ◌-◌, refl, arith}
 use Rattle.vm_tree.specs.Links.{side}
 use Rattle.vm_tree.specs.Building.{remaining_blocks}

@@ -1,3 +1,4 @@
+-- A quotient and a remainder give the number of blocks of each leaf. The prover does not find lemmas with divisions as arguments.
 use Rattle.std.proofs.Common.{◌≡◌, ◌-◌, ◌+◌, ◌/◌, ◌%◌, ◌<◌, refl, arith}
 use Rattle.std.proofs.lemmas.Result.{IfOk-weaker}
 use Rattle.vm_tree.specs.Links.{side}

@@ -1,3 +1,4 @@
+-- The leaf is in the child that has the address. The lemmas are about two children, which the prover does not substitute for the tree.
 use Rattle.std.proofs.Common.{◌≡◌, ◌∙◌, sym, ap, arith}
 use Rattle.vm_tree.specs.Shape.{Fork, height_of}
 use Rattle.vm_tree.specs.Links.{side}

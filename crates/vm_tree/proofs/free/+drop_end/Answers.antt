@@ -1,3 +1,5 @@
+-- If the child at an end drops its block, so does the tree.
+-- The lemmas are about two children, which the prover does not substitute for the tree. After the match, both ends are cases.
 use Rattle.std.proofs.Common.{rules, ◌∙◌, sym, ap, subst, arith}
 use Rattle.vm_leaf.specs.Blocks.{start_of}
 use Rattle.vm_tree.specs.declared.end.End.TheVariants.{First, Last}

@@ -1,3 +1,5 @@
+-- A range is freed beside the edge that it touches, or else in the child with its start.
+-- The lemmas are about two children, which the prover does not substitute for the tree. After the branch, both are cases.
 use Rattle.std.proofs.Common.{◌<◌, ◌∙◌, ap, subst, arith}
 use Rattle.vm_leaf.specs.Blocks.{start_of, end_of}
 use Rattle.vm_tree.specs.declared.end.End.TheVariants.{First, Last}

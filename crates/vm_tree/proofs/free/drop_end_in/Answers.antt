@@ -1,3 +1,5 @@
+-- Without the block, each number of the summary is the same, or was that of the block.
+-- Both bounds are lemmas on the leaf after the match, but the search with them gives up at its limits.
 use Rattle.std.proofs.Common.{rules, ◌≡◌}
 use Rattle.vm_tree.specs.Frees.{without_end}
 use Rattle.vm_tree.proofs.Frees.{longest_without, most_without}

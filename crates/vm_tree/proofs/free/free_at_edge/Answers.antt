@@ -1,3 +1,5 @@
+-- The nodes that are entered are those of the call, and the node itself.
+-- The prover does not change the count within an option, nor replace the edge by the start of the right child.
 use Rattle.std.proofs.Common.{◌≢◌, arith}
 use Rattle.vm_leaf.specs.Blocks.{start_of}
 use Rattle.vm_tree.specs.Shape.{blocks}

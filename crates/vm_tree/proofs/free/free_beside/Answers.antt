@@ -1,3 +1,5 @@
+-- If the block beyond the edge is a gap, the range is freed with it, the gap is dropped, and the edge moves over it.
+-- All goals use lemmas on both children at the edge, whose premises are lemmas too. The prover does not nest them.
 use Rattle.std.proofs.Common.{rules, ◌≡◌, ◌∙◌, sym, ap, arith}
 use Rattle.vm_leaf.specs.declared.block.Block.{Block}
 use Rattle.vm_tree.specs.Links.{side}

@@ -1,3 +1,4 @@
+-- The block is extended to the range, and then freed. The prover does not join both ends of the match to one fact on the extended leaf.
 use Rattle.std.proofs.Common.{rules, ◌≡◌}
 use Rattle.vm_tree.specs.Frees.{EndHeld, between}
 use Rattle.vm_tree.proofs.Frees.{extended, frees_end, joins_end}

@@ -1,3 +1,5 @@
+-- A leaf has a held range only as the block that contains its start.
+-- The prover does not refute it in each other case: the block starts elsewhere, ends elsewhere, or is a gap.
 use Rattle.std.proofs.Common.{◌∙◌, ap, sym, refl}
 use Rattle.vm_leaf.specs.declared.block.Block.{Block}
 use Rattle.vm_tree.specs.Frees.{Holds}

@@ -1,3 +1,5 @@
+-- The blocks of the first leaf in the span come before those of the rest of the span.
+-- Each branch has a lemma on a run that is cut after a leaf, which the prover does not apply even if it is named.
 use Rattle.std.proofs.Common.{arith}
 use Rattle.vm_tree.specs.Shape.{blocks}
 use Rattle.vm_tree.specs.Links.{side}

@@ -1,3 +1,5 @@
+-- The range is allocated in the child with its start, and the links above are updated.
+-- The lemmas are about two children, which the prover does not substitute for the node that is read.
 use Rattle.std.proofs.Common.{◌≡◌, ◌++◌, ◌∙◌, sym, ap, subst, arith}
 use Rattle.vm_tree.specs.Shape.{Shape, Fork, blocks, height_of}
 use Rattle.vm_tree.specs.Links.{side}

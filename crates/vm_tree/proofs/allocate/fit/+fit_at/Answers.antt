@@ -1,3 +1,5 @@
+-- The near child is searched, then the far one if it has no place. The nodes that are entered are counted.
+-- The prover does not substitute two children for the node, nor the old node for the one after a search without a place.
 use Rattle.std.proofs.Common.{◌≡◌, ◌∙◌, refl, sym, ap, subst, arith, inl}
 use Rattle.vm_tree.specs.Shape.{Fork, blocks, height_of}
 use Rattle.vm_tree.specs.Links.{side}

