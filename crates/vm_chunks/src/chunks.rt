@@ -221,6 +221,7 @@ impl<E: Entry> Chunks<E> {
     }
 
     /// Creates a list of the entries of a chunk. Its lists of chunks and bounds have room for a second one.
+    #[tactic(auto, using(crate::proofs::KeyedLists::one_chunk))]
     pub fn of(alloc: Global, chunk: &Chunk<E>) -> Result<Self, AllocError>
         requires { IsDescendingBy E.key_of chunk.now }
         ensures { IfOk result (λ list. list ≡ chunk.now) }
@@ -302,6 +303,7 @@ impl<E: Entry> Chunks<E> {
     }
 
     /// Returns an iterator over the entries in ascending order of their keys. It does not allocate.
+    #[tactic(auto, using(crate::proofs::Homes::entries_descend))]
     pub fn iter(&self) -> Iter<'_, E>
         ensures entries { result ≡ reverse self.now }
         ensures order { IsDescendingBy E.key_of self.now }

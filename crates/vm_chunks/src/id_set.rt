@@ -106,6 +106,7 @@ impl IdSet {
     }
 
     /// Returns the number of ids. It takes constant time.
+    #[tactic(auto, using(crate::proofs::RunOrder::ids_sorted))]
     pub fn len(&self) -> u64
         ensures value { result ≡ length self.now.keys }
         ensures order { IsOrdered nat_cmp self.now }
@@ -114,6 +115,7 @@ impl IdSet {
     }
 
     /// Returns `true` if the set has the id.
+    #[tactic(auto, using(crate::proofs::Runs::none_has, crate::proofs::Runs::found_has))]
     pub fn contains(&self, id: u32) -> bool
         ensures { result ≡ contains nat_cmp self.now id }
     {
@@ -132,6 +134,7 @@ impl IdSet {
     }
 
     /// Returns an iterator over the runs, from the lowest to the highest, or backwards. It does not allocate.
+    #[tactic(auto, using(crate::proofs::RunOrder::ids_sorted, crate::proofs::RunsAgain::ids_in_turn, crate::proofs::RunsAgain::all_filled))]
     pub fn runs(&self) -> Iter<'_, Run>
         ensures ids { flat_map ids_of_run result ≡ self.now.keys }
         ensures order { IsOrdered nat_cmp self.now }
@@ -164,6 +167,7 @@ impl IdSet {
     /// Removes an id, and returns `true`. Returns `false` if the set does not have it. An error changes nothing.
     ///
     /// It allocates only if the set has the ids right below and right above.
+    #[tactic(auto, using(crate::proofs::RunChanges::on_err, crate::proofs::RunCuts::inside))]
     pub fn remove(&mut self, id: u32) -> Result<bool, AllocError>
         ensures removed { OnOk result (Removes id self.old self.new) }
         ensures had { IfOk result (λ had. had ≡ contains nat_cmp self.old id) }

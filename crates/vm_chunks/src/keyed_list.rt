@@ -135,6 +135,7 @@ impl<E: Entry> KeyedList<E> {
     }
 
     /// Replaces the entry with the key of this one. It does not allocate.
+    #[tactic(auto, using(crate::proofs::KeyedLists::few_descends, crate::proofs::EntryLaws::put_descends))]
     pub fn set(&mut self, entry: E)
         requires { IsSome (entry_at E.key_of (E.key_of entry) self.old) }
         ensures { self.new ≡ with_entry E.key_of entry self.old }
@@ -147,6 +148,7 @@ impl<E: Entry> KeyedList<E> {
 
     /// Replaces the entry with this key by one with a lower key, which is above the keys of the entries below. It does
     /// not allocate.
+    #[tactic(auto, using(crate::proofs::KeyedLists::few_descends, crate::proofs::EntryLaws::put_descends, crate::proofs::EntryLaws::taken_descends))]
     pub fn lower_key(&mut self, key: u64, entry: E)
         requires known { IsSome (entry_at E.key_of key self.old) }
         requires lower { E.key_of entry ≤ key }
@@ -160,6 +162,7 @@ impl<E: Entry> KeyedList<E> {
     }
 
     /// Inserts an entry with a new key. An error changes nothing.
+    #[tactic(auto, using(crate::proofs::KeyedLists::few_descends, crate::proofs::EntryLaws::put_descends))]
     pub fn insert(&mut self, alloc: Global, entry: E) -> Result<(), AllocError>
         requires { entry_at E.key_of (E.key_of entry) self.old ≡ None }
         ensures inserted { OnOk result (self.new ≡ with_entry E.key_of entry self.old) }
@@ -185,6 +188,7 @@ impl<E: Entry> KeyedList<E> {
     }
 
     /// Removes the entry with this key, and returns it. It does not allocate.
+    #[tactic(auto, using(crate::proofs::KeyedLists::few_descends, crate::proofs::EntryLaws::taken_descends))]
     pub fn remove(&mut self, key: u64) -> Option<E>
         ensures entry { result ≡ entry_at E.key_of key self.old }
         ensures rest { self.new ≡ without E.key_of key self.old }

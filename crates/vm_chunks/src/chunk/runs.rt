@@ -105,6 +105,7 @@ fn has_next(runs: &[Run], at: usize, is_first: bool, is_last: bool) -> bool
 }
 
 /// Returns `true` if the run above has the id.
+#[tactic(auto, using(crate::proofs::Nearby::above_is, crate::proofs::Nearby::above_none))]
 fn has_id(runs: &[Run], at: usize, id: u32) -> bool
     requires { IsPlaceFrom last_of id at runs.now }
     ensures yes { IsTrue result → HasId id (at_or_above last_of id runs.now) }

@@ -25,6 +25,7 @@ impl KeyedList<Run> {
 
     /// Removes and returns the lowest id. It does not allocate.
     #[inline(always)]
+    #[tactic(auto, using(crate::proofs::KeyedLists::few_descends, crate::proofs::Lowest::taken_descends))]
     pub(crate) fn pop(&mut self) -> Option<u32>
         ensures { TakesLowest result self.old self.new }
     {
@@ -37,6 +38,7 @@ impl KeyedList<Run> {
     /// Adds an id like `add`, if that changes the runs of one chunk. Returns `None` and changes nothing otherwise, or
     /// if the chunk has no memory for a new run. It does not allocate.
     #[inline(always)]
+    #[tactic(auto, using(crate::proofs::Adding::filled_runs, crate::proofs::KeyedLists::few_descends, crate::proofs::KeyedLists::near_descends))]
     fn add_near(&mut self, id: u32) -> Option<bool>
         requires { AreRuns RUNS_END self.old }
         ensures added { IfSome result (λ is_new. AddsId id is_new self.old self.new) }
