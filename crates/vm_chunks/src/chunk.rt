@@ -178,6 +178,7 @@ impl<E: Entry> Chunk<E> {
     }
 
     /// Inserts an entry with a new key. It allocates at most once. An error changes nothing.
+    #[tactic(auto, using(crate::proofs::Cuts::inserts))]
     pub fn insert(&mut self, alloc: Global, entry: E) -> Result<(), AllocError>
         requires order { IsDescendingBy E.key_of self.old }
         requires new { entry_at E.key_of (E.key_of entry) self.old ≡ None }

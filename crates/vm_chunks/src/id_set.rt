@@ -152,6 +152,7 @@ impl IdSet {
     }
 
     /// Adds an id, and returns `true`. Returns `false` if the set has it already. An error changes nothing.
+    #[tactic(auto, using(crate::proofs::RunAdds::is_added, crate::proofs::RunAdds::lacked, crate::proofs::RunChanges::count_bound, crate::proofs::RunChanges::on_err))]
     pub fn insert(&mut self, id: u32) -> Result<bool, AllocError>
         ensures added { OnOk result (Adds id self.old self.new) }
         ensures new { IfOk result (λ is_new. is_new ≡ not (contains nat_cmp self.old id)) }

@@ -1,4 +1,4 @@
--- The keys descend, so those above the key are the first ones. This needs a lemma, and a place is a record of three facts.
+-- The keys descend, so those above the key are the first ones. This is a lemma, but the search with it gives up at its limits.
 use Rattle.std.proofs.Common.{rules, ltb, arith}
 use Rattle.std.proofs.lemmas.Bool.{ltb-true, ltb-false}
 use Rattle.std.proofs.lemmas.List.Sorted.{IsPartitionPoint-from_clause}

@@ -124,6 +124,7 @@ fn joins_above(runs: &[Run], at: usize, id: u32) -> bool
 }
 
 /// Returns `true` if the run below ends right below the id.
+#[tactic(auto, using(crate::proofs::Nearby::right_below))]
 fn joins_below(runs: &[Run], at: usize, id: u32) -> bool
     requires { IsPlaceFrom last_of id at runs.now }
     ensures { IsTrue result ↔ IsRightBelow id at runs.now }

@@ -1,4 +1,5 @@
--- The ids become a new highest run, or join the highest run if it ends right below them. Each case needs a lemma on the runs and on their ids.
+-- The ids become a new highest run, or join the highest run if it ends right below them.
+-- Each case has a lemma on both changes of the runs, which the prover does not apply even if it is named.
 use Rattle.std.proofs.Common.{arith}
 use Rattle.vm_chunks.proofs.RunEnds.{last_new, kept_runs, kept_ids, dropped_runs, dropped_ids}
 use Rattle.vm_chunks.proofs.id_set.add_run.Goals as goal

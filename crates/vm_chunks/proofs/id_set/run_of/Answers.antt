@@ -1,4 +1,4 @@
--- Only the lowest run that ends at the id or above it can have the id. This needs lemmas on the ids of the runs before and after it.
+-- Only the lowest run that ends at the id or above it can have the id. The prover does not chain the lemma on this run with a comparison.
 use Rattle.std.proofs.Common.{sym, ◌∙◌, arith}
 use Rattle.std.proofs.lemmas.Bool.{lt-leb}
 use Rattle.vm_chunks.specs.Runs.{RUNS_END}

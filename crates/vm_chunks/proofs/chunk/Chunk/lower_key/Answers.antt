@@ -1,4 +1,4 @@
--- The entry at the place of the key is replaced. The contract of `place` is about a slice, which the prover does not rewrite to the list.
+-- The place of a known key is in the list, and its entry is replaced. Lemmas state this, but the search with them gives up at its limits.
 use Rattle.std.proofs.Common.{rules, sym, ◌∙◌}
 use Rattle.vm_chunks.proofs.Cuts.{known_within, sets_at}
 use Rattle.vm_chunks.proofs.Lowered.{lowered_down}

@@ -1,4 +1,4 @@
--- The entry at the place of its key is replaced. The contract of `place` is about a slice, which the prover does not rewrite to the list.
+-- The place of a known key is in the list, and its entry is replaced. Lemmas state this, but the search with them gives up at its limits.
 use Rattle.std.proofs.Common.{rules}
 use Rattle.vm_chunks.proofs.Cuts.{known_within, sets}
 use Rattle.vm_chunks.proofs.chunk.Chunk.set.Goals as goal

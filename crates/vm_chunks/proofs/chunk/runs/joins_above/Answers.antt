@@ -1,5 +1,5 @@
 -- The comparison is true if and only if the run above begins right above the id.
--- The subtraction needs the clause on the search for this run, in which the prover does not substitute the run.
+-- Lemmas on this run state this, but the search with them gives up at its limits.
 use Rattle.std.proofs.Common.{subst, arith}
 use Rattle.std.proofs.lemmas.Bool.{eqb-true, eq-eqb, ltb-true}
 use Rattle.vm_chunks.specs.Runs.{LacksId}

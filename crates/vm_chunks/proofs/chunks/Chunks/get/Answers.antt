@@ -1,4 +1,4 @@
--- Only the chunk that the bounds give can have the key. The prover does not substitute the chunk that is read for the one at this index.
+-- Only the chunk that the bounds give can have the key. Lemmas state this for an index, but the search with them gives up at its limits.
 use Rattle.std.proofs.Common.{rules, ◌≡◌, ◌<◌, length, get_or, subst, ap, ◌∙◌}
 use Rattle.vm_chunks.specs.Entries.{IsDescendingBy, entry_at}
 use Rattle.vm_chunks.proofs.Homes.{all_bounds_descend, home_descends, entry_home, none_past}

@@ -1,4 +1,5 @@
--- Two sets have the same ids if and only if they have the same runs. The iterators return the runs in reverse, which the prover does not undo.
+-- Two sets have the same ids if and only if they have the same runs.
+-- This is a lemma, but iterators return the runs in reverse, and the search gives up at its limits.
 use Rattle.std.proofs.Common.{◌≡◌, ℕ, List, reverse, ap, sym, ◌∙◌, subst}
 use Rattle.std.proofs.lemmas.List.{reverse-reverse}
 use Rattle.std.specs.BTreeSet.{BTreeSet, IsOrdered}

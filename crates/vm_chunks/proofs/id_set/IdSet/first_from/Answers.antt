@@ -1,4 +1,4 @@
--- The lowest id is in the lowest run that ends at `first` or above it. The prover does not rewrite the set to the ids of its runs.
+-- The lowest id is in the lowest run that ends at `first` or above it. Lemmas state this for runs, but the search with them gives up.
 use Rattle.std.proofs.Common.{ℕ, max, sym, ◌∙◌, subst}
 use Rattle.std.specs.BTreeSet.{BTreeSet}
 use Rattle.vm_chunks.specs.Runs.{RUNS_END, HasNoneFrom, IsLowestFrom}

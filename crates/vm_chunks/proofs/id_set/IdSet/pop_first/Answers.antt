@@ -1,4 +1,4 @@
--- The lowest id leaves the set, and the count decreases by one. The prover does not rewrite the set to the ids of its runs.
+-- The lowest id leaves the set, and the count decreases by one. Lemmas on runs state this, but the search with them gives up at its limits.
 use Rattle.std.proofs.Common.{ℕ, ◌-◌, ap, ◌∙◌, arith, subst}
 use Rattle.std.specs.BTreeSet.{BTreeSet}
 use Rattle.vm_chunks.specs.Runs.{IsLowestFrom, Removes}

@@ -1,5 +1,5 @@
 -- The id joins the runs right above and right below it, if there are any.
--- Each case needs a lemma on the edited list, and the prover does not rewrite the slice to the list.
+-- Each case has a lemma on the edited list. The prover does not turn the results of the tests into its premises.
 use Rattle.std.proofs.Common.{◌↔◌, ◌-◌, IsTrue, false, length, get_or, set, refl, sym, ap, ◌∙◌, arith}
 use Rattle.std.specs.List.{insert, remove}
 use Rattle.std.proofs.lemmas.Bool.{true≢false}
