@@ -1,3 +1,4 @@
+-- The digits of the rest and those that are written are those of the number. Lemmas on decimals take two digits off by a division.
 use Rattle.std.proofs.Common.{arith, rules, append-nil}
 use Rattle.vm_commands.proofs.Decimals.{long, length_step, some_long, put_more, put_two, put_one}
 use Rattle.vm_commands.proofs.buffer.write_digits.Goals as goal

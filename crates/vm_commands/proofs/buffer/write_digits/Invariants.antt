@@ -1,3 +1,4 @@
+-- The digits of the rest and those that are written are those of the number. No contract states this, so the prover does not find it.
 use Rattle.std.proofs.Common.{◌≡◌, ◌++◌, ◌≤◌, ◌<◌, ◌^◌, length}
 use Rattle.std.specs.Fmt.{decimal}
 use Rattle.vm_commands.specs.Printing.{digits_from}

@@ -1,3 +1,5 @@
+-- The value is that of the digits so far, and the next byte is a digit or ends the number.
+-- The prover does not count the digits of a list without its first bytes, nor distinguish both ends of the loop.
 use Rattle.std.proofs.Common.{◌≡◌, ◌+◌, ◌^◌, ◌≤◌, arith, get_or, drop, take, true, false, sym}
 use Rattle.std.proofs.lemmas.Bool.Decides.{nat_tests}
 use Rattle.std.proofs.lemmas.List.Sums.{prefix_len-drop_yes, prefix_len-drop_no, prefix_len-drop_all}

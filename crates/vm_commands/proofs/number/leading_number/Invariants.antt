@@ -1,3 +1,4 @@
+-- The value is the number of the digits so far, and fits. No contract states this, so the prover does not find it.
 use Rattle.std.proofs.Common.{◌≡◌, ◌+◌, ◌-◌, ◌^◌, ◌<◌, ◌≤◌, length, take, drop}
 use Rattle.vm_commands.specs.Numbers.{value_from}
 use Rattle.vm_commands.specs.Reading.{leading_digits}

@@ -1,3 +1,4 @@
+-- After the digits comes a space, or another byte, which is an error. Both lemmas need that this byte is still in the text.
 use Rattle.std.proofs.Common.{◌<◌, length, arith}
 use Rattle.vm_commands.proofs.Numerals.{ahead_within}
 use Rattle.vm_commands.proofs.FirstNumber.{then_blank, then_other}

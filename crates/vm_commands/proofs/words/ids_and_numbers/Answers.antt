@@ -1,3 +1,5 @@
+-- A text has four words of these kinds, or one word is missing or wrong.
+-- Each of the six returns needs a lemma on the list of words, with equations that the prover does not chain.
 use Rattle.std.proofs.Common.{◌∙◌, sym, ap, refl, None, Some}
 use Rattle.std.specs.Option.{option_copied}
 use Rattle.vm_commands.specs.Numbers.{number_of}
