@@ -131,6 +131,7 @@ fn write_digits(number: u64, digits: &mut [u8; DIGITS_LEN]) -> usize
 
 /// Writes two digits that end before index `start`.
 #[inline(always)]
+#[tactic(auto, using(crate::proofs::Decimals::put_both, crate::proofs::Decimals::pairs_are))]
 fn write_two_digits(digits: &mut [u8; DIGITS_LEN], start: usize, pair: u8)
     requires pair { pair < 100 }
     requires some { 1 < start }
