@@ -1,7 +1,7 @@
 -- The gaps of a state, and the results of queries of addresses.
 use Rattle.std.specs.Prelude.{ℕ, ◌+◌, ◌-◌, max, List, [], ◌∷◌, ◌++◌, Option, Some, None}
-use Rattle.std.specs.List.{All, Contains, filter}
-use Rattle.vm_ranges.specs.Range.{Range, IsIn, address_count}
+use Rattle.std.specs.List.{Contains, filter}
+use Rattle.vm_ranges.specs.Range.{Range, IsIn, IsInNone, address_count}
 use Rattle.vm_ranges.specs.Address.{AddressState}
 use Rattle.vm_ranges.specs.Windows.{common}
 use Rattle.vm_leaf.specs.declared.block.Block.{Block}
@@ -59,7 +59,7 @@ count_of (r ∷ rs) = address_count r + count_of rs
 
 -- The answer is a range of the list that contains the address x, or None if no range of the list contains it.
 abbrev pub IsRangeAt : List Range → ℕ → Option Range → Type 0
-IsRangeAt ranges x None = All (λ r. ¬ IsIn r x) ranges
+IsRangeAt ranges x None = IsInNone ranges x
 IsRangeAt ranges x (Some r) = Contains ranges r × IsIn r x
 
 -- The answer is a held range that contains the address x, or None if no held range contains it.

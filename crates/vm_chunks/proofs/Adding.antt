@@ -4,17 +4,17 @@ use Rattle.std.specs.Option.{is_some, option_or, IsSome}
 use Rattle.std.specs.List.{All}
 use Rattle.std.proofs.lemmas.Bool.{cases_lt, cases_eq, cond-true, cond-false, eq-eqb, ne_eqb, le-leb, lt-leb, lt-ltb, le-ltb, true≢false}
 use Rattle.std.proofs.lemmas.Option.{same_Some}
-use Rattle.std.proofs.lemmas.List.{append-nil, length-set, set-get_or, get_or-set_other}
+use Rattle.std.proofs.lemmas.List.{append-nil, length-set, set-get_or}
 use Rattle.std.proofs.lemmas.List.Elements.{All-nil, All-cons}
 use Rattle.vm_chunks.specs.declared.id_set.Run.{Run}
-use Rattle.vm_chunks.specs.Entries.{HasKey, IsPlace, at_or_above, highest_below, with_entry, without_some}
-use Rattle.vm_chunks.specs.Chunks.{TOP, entries_of, AreAllBounded, AreChunks, AreFilledBut}
+use Rattle.vm_chunks.specs.Entries.{IsPlace, at_or_above, highest_below, with_entry, without_some}
+use Rattle.vm_chunks.specs.Chunks.{TOP, entries_of, AreAllBounded, AreChunks}
 use Rattle.vm_chunks.specs.Runs.{RUNS_END, AreRuns, last_of, HasId, LacksId, HasNext, AddsId, joined_last, joined_key, joined_run, with_id}
 use Rattle.vm_chunks.proofs.Middles.{from_in, or_none}
 use Rattle.vm_chunks.proofs.Runs.{upper_runs, lower_runs}
 use Rattle.vm_chunks.proofs.Homes.{parts, from_home, under_home, none_before_first, none_after}
 use Rattle.vm_chunks.proofs.Divisions.{all_set}
-use Rattle.vm_chunks.proofs.Puts.{home_of, put_bounded, put_changes}
+use Rattle.vm_chunks.proofs.Puts.{home_of, put_bounded, put_changes, HasKey}
 
 -- ---- What a search finds is in the list
 or_some : {X : Type 0} (o q : Option X) → IsSome o → option_or o q ≡ o

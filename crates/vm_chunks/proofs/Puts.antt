@@ -2,12 +2,16 @@
 use Rattle.std.proofs.Common.{◌≡◌, ℕ, zero, suc, ◌-◌, ◌<◌, ◌≤◌, inl, inr, List, [], ◌∷◌, length, get_or, set, arith, sym, ap, ◌∙◌, subst, refl, Option, Some, None, IfSome}
 use Rattle.std.proofs.lemmas.Bool.{cases_lt}
 use Rattle.std.proofs.lemmas.List.{length-set, get_or-set_same, get_or_default}
-use Rattle.vm_chunks.specs.Entries.{HasKey, IsPlace, with_entry, without, without_some}
+use Rattle.vm_chunks.specs.Entries.{IsPlace, with_entry, without, without_some, IsKeyOf}
 use Rattle.vm_chunks.specs.Chunks.{TOP, entries_of, AreAllBounded, AreChunks}
 use Rattle.vm_chunks.proofs.Descents.{keys_within}
 use Rattle.vm_chunks.proofs.Homes.{bounded, bounds_below, chunk_descends, same_lengths, all_bounds_descend}
 use Rattle.vm_chunks.proofs.Divisions.{put_is, put_entries, taken_bounded, taken_entries}
 use Rattle.vm_chunks.proofs.Gaps.{place_is}
+
+-- An entry has the key t.
+abbrev pub HasKey : {X : Type 0} → (X → ℕ) → ℕ → List X → Type 0
+HasKey key t xs = (k : ℕ) × (k < length xs) × IsKeyOf key t k xs
 
 -- A second change at the same place.
 twice : {X : Type 0} (xs : List X) (i : ℕ) (x y : X) → set (set xs i x) i y ≡ set xs i y

@@ -6,10 +6,10 @@ use Rattle.std.specs.Ordering.{nat_cmp}
 use Rattle.std.specs.BTreeSet.{contains}
 use Rattle.vm_chunks.specs.declared.id_set.Run.{Run}
 use Rattle.vm_chunks.specs.Entries.{at_or_above, highest_below}
-use Rattle.vm_chunks.specs.Runs.{RUNS_END, AreRuns, last_of, LacksId, joined_first, joined_last, joined_key, joined_run, with_id, ids_of_runs, HasId, AddsId, Adds, Puts}
+use Rattle.vm_chunks.specs.Runs.{RUNS_END, AreRuns, last_of, LacksId, joined_first, joined_last, joined_key, joined_run, with_id, ids_of_runs, HasId, AddsId, Adds}
 use Rattle.vm_chunks.proofs.Runs.{set_of, found_has}
 use Rattle.vm_chunks.proofs.RunJoins.{Joins, JoinsAbove, none_above_id, next_above_id, far_above_id, joins_lower, joins_apart, joins_none}
-use Rattle.vm_chunks.proofs.RunChanges.{id_is_new, puts_without}
+use Rattle.vm_chunks.proofs.RunChanges.{id_is_new, puts_without, Puts}
 
 -- A run that ends below an id, as the highest run below an id does.
 abbrev pub EndsBelow : ℕ → Option Run → Type 0

@@ -10,7 +10,7 @@ use Rattle.std.specs.Ordering.{nat_cmp}
 use Rattle.std.specs.BTreeSet.{contains}
 use Rattle.vm_chunks.specs.declared.id_set.Run.{Run}
 use Rattle.vm_chunks.specs.Entries.{above, below, with_entry, without, without_some, entry_at}
-use Rattle.vm_chunks.specs.Runs.{RUNS_END, ids_of_run, ids_of_runs, AreRuns, lowest_of, Puts}
+use Rattle.vm_chunks.specs.Runs.{RUNS_END, ids_of_run, ids_of_runs, AreRuns, Adds}
 use Rattle.vm_chunks.proofs.RunJoins.{Joins}
 use Rattle.vm_chunks.proofs.Middles.{with_in, with_nothing, without_in}
 use Rattle.vm_chunks.proofs.Runs.{
@@ -27,7 +27,13 @@ use Rattle.vm_chunks.proofs.Runs.{
   all_below,
   none_above,
   none_below,
-}
+, lowest_of}
+
+-- The runs new have the id and those of old, and one id more. Only private functions cite it.
+pub record Puts (id : ℕ) (old new : List Run) : Type 0 where
+  pub order : AreRuns RUNS_END new
+  pub members : Adds id (record { keys = ids_of_runs old }) (record { keys = ids_of_runs new })
+  pub counted : length (ids_of_runs new) ≡ length (ids_of_runs old) + 1
 
 -- ---- Counts
 pub ids_of_parts : (us ls : List Run) → ids_of_runs (us ++ ls) ≡ ids_of_runs ls ++ ids_of_runs us

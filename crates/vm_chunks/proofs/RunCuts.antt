@@ -7,7 +7,7 @@ use Rattle.std.specs.List.{All}
 use Rattle.std.specs.Option.{is_some, IsSome}
 use Rattle.vm_chunks.specs.declared.id_set.Run.{Run}
 use Rattle.vm_chunks.specs.Entries.{below, with_entry, without, entry_at, at_or_above}
-use Rattle.vm_chunks.specs.Runs.{RUNS_END, AreRuns, lowest_of, HasRun, Cuts, IsInside}
+use Rattle.vm_chunks.specs.Runs.{RUNS_END, AreRuns, HasRun, Cuts, IsInside}
 use Rattle.vm_chunks.proofs.Middles.{entry_in, with_in, with_nothing, without_in, below_in}
 use Rattle.vm_chunks.proofs.Runs.{
   key_of,
@@ -24,7 +24,7 @@ use Rattle.vm_chunks.proofs.Runs.{
   none_above,
   none_below,
   found_near,
-}
+, lowest_of}
 use Rattle.vm_chunks.proofs.RunChanges.{count_of, count_parts, count_more, with_own, without_own, below_own, own_entry, no_own_entry}
 
 -- The run that a search finds has the id if it begins up to it.

@@ -1,5 +1,5 @@
 -- The runs after ids are added above all, or the lowest id is taken out.
-use Rattle.std.proofs.Common.{◌≡◌, ◌≢◌, ℕ, zero, suc, ◌+◌, ◌-◌, ◌<◌, ◌≤◌, ◌⊎◌, true, false, ◌||◌, eqb, List, [], ◌∷◌, ◌++◌, sym, ap, ◌∙◌, subst, refl, arith, inl, inr, ◌^◌, Option, Some, None, IsTrue}
+use Rattle.std.proofs.Common.{◌≡◌, ℕ, zero, suc, ◌+◌, ◌-◌, ◌<◌, ◌≤◌, ◌⊎◌, true, false, ◌||◌, eqb, List, [], ◌∷◌, ◌++◌, sym, ap, ◌∙◌, subst, refl, arith, inl, inr, ◌^◌, Option, Some, None, IsTrue}
 use Rattle.std.proofs.lemmas.Bool.{cases_lt, cond-true, cond-false, lt-ltb, le-ltb}
 use Rattle.std.proofs.lemmas.List.{append_assoc}
 use Rattle.std.proofs.lemmas.List.Folds.{list_any-append}
@@ -10,9 +10,9 @@ use Rattle.std.specs.Ordering.{nat_cmp}
 use Rattle.std.specs.BTreeSet.{contains}
 use Rattle.vm_chunks.specs.declared.id_set.Run.{Run}
 use Rattle.vm_chunks.specs.Entries.{with_entry, without, entry_at}
-use Rattle.vm_chunks.specs.Runs.{RUNS_END, ids_of_runs, AreRuns, lowest_of, StartsAbove, IsLowestFrom, Removes, TakesLowest}
+use Rattle.vm_chunks.specs.Runs.{RUNS_END, ids_of_runs, AreRuns, StartsAbove, IsLowestFrom, Removes, TakesLowest}
 use Rattle.vm_chunks.proofs.Middles.{entry_in, with_in, with_nothing, without_in}
-use Rattle.vm_chunks.proofs.Runs.{key_of, in_run, in_runs, set_of, member_test, upper_runs, lower_runs, both_runs, all_below, none_above}
+use Rattle.vm_chunks.proofs.Runs.{key_of, in_run, in_runs, set_of, member_test, upper_runs, lower_runs, both_runs, all_below, none_above, lowest_of}
 use Rattle.vm_chunks.proofs.RunChanges.{count_of, count_parts, count_more, without_own, no_own_entry}
 
 -- ---- Ids above all

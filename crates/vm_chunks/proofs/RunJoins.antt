@@ -7,9 +7,9 @@ use Rattle.std.specs.List.{All}
 use Rattle.std.specs.Option.{is_some}
 use Rattle.vm_chunks.specs.declared.id_set.Run.{Run}
 use Rattle.vm_chunks.specs.Entries.{at_or_above, highest_below}
-use Rattle.vm_chunks.specs.Runs.{RUNS_END, AreRuns, lowest_of}
+use Rattle.vm_chunks.specs.Runs.{RUNS_END, AreRuns}
 use Rattle.vm_chunks.proofs.Middles.{under_in}
-use Rattle.vm_chunks.proofs.Runs.{key_of, upper_runs, all_above, none_contained, found_near}
+use Rattle.vm_chunks.proofs.Runs.{key_of, upper_runs, all_above, none_contained, found_near, lowest_of}
 
 -- An id and the runs next to it become `run`. `high` has the run that begins right above the id, if there is one, and `low` the
 -- run that ends right below it. `upper` are above these runs, and `lower` below.

@@ -10,8 +10,13 @@ use Rattle.std.specs.Ordering.{nat_cmp, eq_by_cmp}
 use Rattle.std.specs.BTreeSet.{BTreeSet, contains}
 use Rattle.vm_chunks.specs.declared.id_set.Run.{Run}
 use Rattle.vm_chunks.specs.Entries.{at_or_above}
-use Rattle.vm_chunks.specs.Runs.{ids_of_run, ids_of_runs, AreRuns, lowest_of, IsLowestFrom, HasNoneFrom}
+use Rattle.vm_chunks.specs.Runs.{ids_of_run, ids_of_runs, AreRuns, IsLowestFrom, HasNoneFrom}
 use Rattle.vm_chunks.proofs.Middles.{from_in}
+
+-- The first id of the last run, or the end if there is none.
+abbrev pub lowest_of : ℕ → List Run → ℕ
+lowest_of end [] = end
+lowest_of end (r ∷ rs) = lowest_of r.first rs
 
 -- ---- Members
 pub row_test : (a n i : ℕ) → list_any (eq_by_cmp nat_cmp i) (range_with_len a n) ≡ (leb a i && ltb i (a + n))

@@ -11,10 +11,6 @@ IsDescendingBy {X} key xs =
 abbrev pub IsKeyOf : {X : Type 0} → (X → ℕ) → ℕ → ℕ → List X → Type 0
 IsKeyOf {X} key b k xs = (d : X) → b ≡ key (slice_index_or xs k d)
 
--- An entry has the key t.
-abbrev pub HasKey : {X : Type 0} → (X → ℕ) → ℕ → List X → Type 0
-HasKey key t xs = (k : ℕ) × (k < length xs) × IsKeyOf key t k xs
-
 -- The first n entries have keys above t, and the others have not.
 pub record IsPlace {X : Type 0} (key : X → ℕ) (t n : ℕ) (xs : List X) : Type 0 where
   pub bound : n ≤ length xs

@@ -26,11 +26,6 @@ abbrev pub AreRuns : ℕ → List Run → Type 0
 AreRuns end [] = Unit {0}
 AreRuns end (r ∷ rs) = (r.first ≤ r.last) × (r.last + 1 < end) × AreRuns r.first rs
 
--- The first id of the last run, or the end if there is none.
-abbrev pub lowest_of : ℕ → List Run → ℕ
-lowest_of end [] = end
-lowest_of end (r ∷ rs) = lowest_of r.first rs
-
 -- The set new has the id, and each other id if old has it.
 abbrev pub Adds : ℕ → BTreeSet ℕ → BTreeSet ℕ → Type 0
 Adds id old new = (i : ℕ) → contains nat_cmp new i ≡ (nat_eq i id || contains nat_cmp old i)
@@ -140,12 +135,6 @@ abbrev pub TakesLowest : Option ℕ → List Run → List Run → Type 0
 TakesLowest None old new = (old ≡ []) × (new ≡ old)
 TakesLowest (Some id) old new =
     (others : List Run) × (run : Run) × (old ≡ others ++ run ∷ []) × (id ≡ run.first) × (new ≡ others ++ without_first run)
-
--- The runs new have the id and those of old, and one id more. Only private functions cite it.
-pub record Puts (id : ℕ) (old new : List Run) : Type 0 where
-  pub order : AreRuns RUNS_END new
-  pub members : Adds id (record { keys = ids_of_runs old }) (record { keys = ids_of_runs new })
-  pub counted : length (ids_of_runs new) ≡ length (ids_of_runs old) + 1
 
 -- The run is one of the runs, and has the id. Only private functions cite it.
 pub record HasRun (id : ℕ) (rs : List Run) (run : Run) : Type 0 where

@@ -1,17 +1,16 @@
 -- Laws that follow from the definitions, for one call of an address allocator.
-use Rattle.std.specs.Prelude.{◌≡◌, ◌≢◌, ℕ, ◌<◌, ◌≤◌, ◌⊎◌, ◌↔◌, true, List, length, Result, Ok, Err}
+use Rattle.std.specs.Prelude.{◌≡◌, ◌≢◌, ℕ, ◌<◌, ◌≤◌, ◌↔◌, true, List, length, Result, Ok}
 use Rattle.std.specs.List.{All, AllPairs, Contains}
-use Rattle.vm_ranges.specs.Range.{Range, MAX, Overlaps, Covers}
-use Rattle.vm_ranges.specs.Address.{AddressState, IsClear, IsAddressState}
+use Rattle.vm_ranges.specs.Range.{Range}
+use Rattle.vm_ranges.specs.Address.{AddressState, IsAddressState}
 use Rattle.vm_leaf.specs.declared.block.Block.{Block}
 use Rattle.vm_leaf.specs.Block.{free_length}
 use Rattle.vm_leaf.specs.Fit.{HasNoFit}
 use Rattle.vm_tree.specs.GapSearch.{is_misaligned}
 use Rattle.vm_addresses.specs.Counts.GapSearch.{misaligned_gaps}
 use Rattle.vm_ranges.specs.Request.{Request}
-use Rattle.vm_ranges.specs.Answer.{Allocates, Frees, Makes}
+use Rattle.vm_ranges.specs.Answer.{Allocates, Frees}
 use Rattle.vm_ranges.specs.declared.error.Error.{Error}
-use Rattle.vm_ranges.specs.declared.error.Error.TheVariants.{OutOfMemory}
 use Rattle.vm_addresses.specs.Facts.{AddsRange, RemovesRange, AgreeUnlessMemory, AreDisjoint}
 
 -- A request has one result and one next state, unless memory runs out.

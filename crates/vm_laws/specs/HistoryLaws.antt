@@ -7,19 +7,16 @@ use Rattle.vm_ranges.specs.Range.{Range, MAX, IsRange, IsIn, span}
 use Rattle.vm_ranges.specs.Address.{AddressState, AreClear, IsPlace, IsLowestPlace, IsHighestPlace, IsAddressState}
 use Rattle.vm_ranges.specs.Windows.{within}
 use Rattle.vm_ranges.specs.Request.{Request, IsRequest, MakesConstraint}
-use Rattle.vm_ranges.specs.Answer.{IsChosen, AllocatesAt, Allocates, Frees, Makes}
-use Rattle.vm_addresses.specs.Held.{MakesWithHeld}
+use Rattle.vm_ranges.specs.Answer.{IsChosen, AllocatesAt, Allocates, Frees}
 use Rattle.vm_saved_trees.specs.SavedTrees.{Saved}
 use Rattle.vm_addresses.specs.Several.{AllocatesAll}
 use Rattle.vm_addresses.specs.Moves.{MovesRange}
-use Rattle.vm_addresses.specs.Holes.{MakesWithFree}
 use Rattle.vm_addresses.specs.Facts.{AreDisjoint, AgreeUnlessMemory}
 use Rattle.vm_ranges.specs.Cloning.{Clones}
-use Rattle.vm_ranges.specs.Histories.{EveryCallIsAnswered}
 use Rattle.vm_addresses.specs.Comparison.{AreEqual}
-use Rattle.vm_addresses.specs.Histories.AddressHistories.{Clone, IsCallFrom, IsHistoryFrom, IsReached, Reached, WasAllocated, WasHeldFirst, releases}
+use Rattle.vm_addresses.specs.Histories.AddressHistories.{Clone, IsHistoryFrom, IsReached, Reached, WasAllocated, WasHeldFirst, releases}
 use Rattle.vm_ranges.specs.declared.error.Error.{Error}
-use Rattle.vm_ranges.specs.declared.error.Error.TheVariants.{Overflow, ResourceNotAvailable, InvalidStateTransition, OutOfMemory}
+use Rattle.vm_ranges.specs.declared.error.Error.TheVariants.{Overflow, ResourceNotAvailable, InvalidStateTransition}
 use Rattle.vm_ranges.specs.declared.state.NodeState.TheVariants.{Allocated}
 use Rattle.vm_ranges.specs.declared.constraint.AllocPolicy.TheVariants.{FirstMatch, LastMatch, ExactMatch}
 

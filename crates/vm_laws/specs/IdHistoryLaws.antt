@@ -1,27 +1,12 @@
 -- Laws of every history of an id allocator that was made or read.
-use Rattle.std.specs.Prelude.{◌≡◌, ◌≢◌, ℕ, ◌↔◌, List, [], ◌∷◌, ◌++◌, IsTrue, false, Result, Ok, Err}
+use Rattle.std.specs.Prelude.{◌≡◌, ℕ, ◌↔◌, List, [], ◌∷◌, ◌++◌, IsTrue, false, Ok}
 use Rattle.std.specs.List.{Contains}
 use Rattle.std.specs.FinSet as set
 use Rattle.serde_json.specs.Data.{Data}
-use Rattle.vm_ids.specs.Ids.{IdState, IsHeld, IsLowestNotHeld, IsIdState, MakesIds, AllocatesId}
-use Rattle.vm_ids.specs.IdRequests.{Peeks, MakesWithHeldIds}
-use Rattle.vm_ids.specs.declared.id_request.IdRequest.{IdRequest}
+use Rattle.vm_ids.specs.Ids.{IdState, IsHeld, IsLowestNotHeld, IsIdState, AllocatesId}
 use Rattle.vm_ranges.specs.Cloning.{Clones}
-use Rattle.vm_ranges.specs.Histories.{EveryCallIsAnswered}
 use Rattle.vm_ids.specs.Values.IdValues.{EncodesIds}
-use Rattle.vm_ids.specs.Histories.IdHistories.{
-  IdCall,
-  Free,
-  Clone,
-  IsIdCallFrom,
-  IsIdHistoryFrom,
-  AreIdsMade,
-  AreIdsReached,
-  AllocatedTheId,
-  is_allocated_after,
-}
-use Rattle.vm_ranges.specs.declared.error.Error.{Error}
-use Rattle.vm_ranges.specs.declared.error.Error.TheVariants.{OutOfMemory}
+use Rattle.vm_ids.specs.Histories.IdHistories.{IdCall, Free, Clone, IsIdHistoryFrom, AreIdsMade, AreIdsReached, AllocatedTheId, is_allocated_after}
 
 -- An id that `allocate_id` allocates is the lowest id that was not held, and it is held afterwards.
 unfoldable pub EachIsLowestNotHeld : Type 0

@@ -1,9 +1,7 @@
 -- Laws of ids that follow only from the definitions.
-use Rattle.std.specs.Prelude.{◌≡◌, ◌≢◌, ℕ, ◌≤◌, ◌⊎◌, ◌↔◌, List, length, Result, Ok}
+use Rattle.std.specs.Prelude.{◌≡◌, ◌≢◌, ℕ, ◌≤◌, ◌↔◌, List, length, Result, Ok}
 use Rattle.std.specs.List.{All, AllPairs, Contains}
-use Rattle.std.specs.List.Sorted.{IsStrictlySortedBy}
-use Rattle.std.specs.Ordering.{nat_cmp}
-use Rattle.vm_ids.specs.Ids.{MAX_ID, IdState, WasEverAllocated, IsHeld, held_count, held_ids, IsIdState, holding_id, MakesIds, AllocatesId, PeeksId, FreesId}
+use Rattle.vm_ids.specs.Ids.{MAX_ID, IdState, IsHeld, held_count, IsIdState, MakesIds, AllocatesId, FreesId}
 use Rattle.vm_ids.specs.Histories.IdHistories.{IdCall, IsIdCallFrom}
 use Rattle.vm_ranges.specs.declared.error.Error.{Error}
 use Rattle.vm_ids.specs.Facts.{RemovesId, AddsId}

@@ -1,9 +1,7 @@
 -- Laws of the parts of an id allocator: its range, its next id and its freed ids.
-use Rattle.std.specs.Prelude.{◌≡◌, ◌⊎◌, ◌↔◌, ℕ, List, [], ◌∷◌, ◌++◌, Result, Ok, Err}
-use Rattle.vm_ranges.specs.declared.saved.SavedError.{SavedError}
+use Rattle.std.specs.Prelude.{◌≡◌, ◌↔◌}
 use Rattle.vm_ranges.specs.declared.saved.SavedError.TheVariants as saved_errors
-use Rattle.vm_ids.specs.Ids.{IdState, IsIdState, freed_ids, next_id_of, ids_of}
-use Rattle.vm_ids.specs.FreedLists.{AreFreedOf, PushesId, MakesOfIds}
+use Rattle.vm_ids.specs.Ids.{IdState, IsIdState, freed_ids, next_id_of}
 
 -- Valid states are equal if and only if they have the same range, the same next id and the same freed ids.
 abbrev pub PartsDecideIds : Type 0

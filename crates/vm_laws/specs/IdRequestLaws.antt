@@ -5,7 +5,6 @@ use Rattle.std.specs.List.{filter}
 use Rattle.vm_ids.specs.Ids.{MAX_ID, IdState, IsIdState, MakesIds, AllocatesId, FreesId}
 use Rattle.vm_ids.specs.IdRequests.{free_ids, Peeks, AllocatesExactId, AllocatesIdIn, AllocatesIds, MakesWithHeldIds}
 use Rattle.vm_ids.specs.declared.id_request.IdRequest.{IdRequest}
-use Rattle.vm_ids.specs.declared.id_request.IdRequest.TheVariants.{Lowest, LowestIn, Exact}
 use Rattle.vm_ranges.specs.declared.error.Error.{Error}
 use Rattle.vm_ranges.specs.declared.error.Error.TheVariants.{OutOfMemory}
 use Rattle.vm_ids.specs.Facts.{AllocatesFor}

@@ -1,11 +1,9 @@
 -- Laws of the blocks of an address allocator.
 use Rattle.std.specs.Prelude.{◌≡◌, ℕ, ◌+◌, ◌*◌, ◌≤◌, Ok, length}
-use Rattle.vm_ranges.specs.Cases.{IfElse}
 use Rattle.vm_ranges.specs.Range.{Range}
 use Rattle.vm_ranges.specs.Request.{Request}
-use Rattle.vm_ranges.specs.Address.{AddressState, IsClear, IsAddressState}
+use Rattle.vm_ranges.specs.Address.{AddressState, IsAddressState}
 use Rattle.vm_ranges.specs.Answer.{Allocates, Frees}
-use Rattle.vm_leaf.specs.SpaceBlocks.{blocks_of}
 use Rattle.vm_addresses.specs.Facts.{block_count, AreClearBeside}
 
 -- An allocation adds one block for each part of the gap that is left: two, one, or none if the range fills its gap.

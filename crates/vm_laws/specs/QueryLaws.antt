@@ -1,13 +1,10 @@
 -- Laws of the queries of addresses and gaps.
-use Rattle.std.specs.Prelude.{◌≡◌, ◌↔◌, ℕ, ◌+◌, ◌<◌, ◌≤◌, ◌⊎◌, List, [], Option, Some, None, ◌-◌, ◌*◌, length}
+use Rattle.std.specs.Prelude.{◌≡◌, ◌↔◌, ℕ, ◌+◌, ◌<◌, ◌≤◌, ◌⊎◌, Option, ◌-◌, ◌*◌, length}
 use Rattle.std.specs.List.{Contains}
-use Rattle.vm_ranges.specs.Range.{Range, IsIn, Overlaps, Covers, address_count, IsInNone}
-use Rattle.vm_ranges.specs.Address.{AddressState, IsAddressState, IsClear, AreClear, IsPlace}
-use Rattle.vm_leaf.specs.Blocks.{Tiles}
-use Rattle.vm_leaf.specs.SpaceBlocks.{held_of, blocks_of}
-use Rattle.vm_addresses.specs.Queries.{free_of, gaps_of, longest_of, longest_in, count_of, IsHeldAt, IsGapAt, meeting}
+use Rattle.vm_ranges.specs.Range.{Range, IsIn, Covers, address_count, IsInNone}
+use Rattle.vm_ranges.specs.Address.{AddressState, IsAddressState, IsClear, IsPlace}
+use Rattle.vm_addresses.specs.Queries.{gaps_of, longest_of, longest_in, count_of, IsHeldAt, IsGapAt}
 use Rattle.vm_ranges.specs.Windows.{within}
-use Rattle.vm_ranges.specs.declared.state.NodeState.TheVariants.{Allocated}
 use Rattle.vm_addresses.specs.Facts.{IsInOne, AgreesWithLists, AgreesWithGaps, IsGap, ListsOverlaps, IsClearIfNoneMeets, IsInBlocks}
 
 -- Each address of the space is either in exactly one held range or in exactly one gap.

@@ -1,5 +1,5 @@
 -- Laws of requests with a window.
-use Rattle.std.specs.Prelude.{◌≤◌, ◌↔◌, Option, Some, None, Result, Ok}
+use Rattle.std.specs.Prelude.{◌≤◌, ◌↔◌, Option, Result, Ok}
 use Rattle.vm_ranges.specs.Range.{Range, Covers}
 use Rattle.vm_ranges.specs.Request.{Request}
 use Rattle.vm_ranges.specs.Address.{AddressState, IsAddressState}

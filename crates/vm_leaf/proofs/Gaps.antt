@@ -1,14 +1,12 @@
 -- The gaps of a leaf by its mask.
-use Rattle.std.proofs.Common.{◌≡◌, ℕ, ◌-◌, ◌%◌, ◌^◌, ◌<◌, ◌≤◌, List, length, Option, Some, None, ap, ◌∙◌, sym, arith, pow_mono, inl, inr}
+use Rattle.std.proofs.Common.{◌≡◌, ℕ, ◌-◌, ◌%◌, ◌^◌, ◌<◌, ◌≤◌, List, length, Option, Some, None, ap, ◌∙◌, sym, arith, pow_mono}
 use Rattle.std.specs.Prelude.{MatchOption}
-use Rattle.std.proofs.lemmas.Bool.{cases_lt}
-use Rattle.std.proofs.lemmas.Nat.Bits.{bit_at_above}
 use Rattle.vm_ranges.specs.declared.state.NodeState.{NodeState}
 use Rattle.vm_ranges.specs.declared.state.NodeState.TheVariants.{Free, Allocated}
 use Rattle.vm_leaf.specs.Block.{Block}
 use Rattle.vm_leaf.specs.Blocks.{nth}
 use Rattle.vm_leaf.specs.Leaf.{encoded_blocks, IsInside}
-use Rattle.vm_leaf.specs.States.{states_in, state_of_bit}
+use Rattle.vm_leaf.specs.States.{states_in}
 use Rattle.vm_leaf.specs.declared.leaf.Leaf.TheInside.{Inside}
 use Rattle.vm_leaf.specs.GapMasks.{AreGapsFrom}
 use Rattle.vm_leaf.proofs.Fields.{length_of, state_is}

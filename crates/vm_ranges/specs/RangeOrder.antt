@@ -1,5 +1,5 @@
 -- The order of ranges, and the relations of two ranges.
-use Rattle.std.specs.Prelude.{◌≡◌, ◌<◌, ◌⊎◌, ◌==◌, ◌&&◌, ◌||◌, nat_le, nat_lt, Bool, true}
+use Rattle.std.specs.Prelude.{◌≡◌, ◌==◌, ◌&&◌, ◌||◌, nat_le, nat_lt, Bool, true}
 use Rattle.std.specs.declared.cmp.Ordering.{Ordering}
 use Rattle.std.specs.Ordering.{nat_cmp, on, then_cmp}
 use Rattle.std.specs.Cmp.{IsTotalOrder}
@@ -21,10 +21,6 @@ same_range a b = a.start == b.start && a.end == b.end
 -- Whether both ends of k are in a.
 unfoldable pub covers : Range → Range → Bool
 covers a k = nat_le a.start k.start && nat_le k.end a.end
-
--- One of the two ranges ends before the other starts.
-abbrev pub Apart : Range → Range → Type 0
-Apart a b = (a.end < b.start) ⊎ (b.end < a.start)
 
 -- The order of ranges: by start, then by end.
 abbrev pub range_cmp : Range → Range → Ordering

@@ -18,11 +18,6 @@ abbrev pub node_height : NodeTree → ℕ
 node_height Tip = 0
 node_height (Fork l b r) = max (node_height l) (node_height r) + 1
 
--- The number of nodes.
-abbrev pub number_of_nodes : NodeTree → ℕ
-number_of_nodes Tip = 0
-number_of_nodes (Fork l b r) = number_of_nodes l + number_of_nodes r + 1
-
 -- The heights of both children of each node are at most one apart.
 abbrev pub HasBalancedNodes : NodeTree → Type 0
 HasBalancedNodes Tip = Unit {0}

@@ -6,7 +6,8 @@ use Rattle.vm_leaf.specs.declared.block.Block.{Block}
 use Rattle.vm_leaf.specs.Block.{free_block, held_block}
 use Rattle.vm_leaf.specs.Blocks.{nth, longest_gap, parts, before_part, after_part, with_parts, IsTakenFrom}
 use Rattle.vm_leaf.specs.Rest.{IsRest}
-use Rattle.vm_leaf.specs.Multiples.{HasMultiple, alignment_count, most_alignments}
+use Rattle.vm_leaf.specs.Multiples.{alignment_count, most_alignments}
+use Rattle.vm_leaf.proofs.Highest.{HasMultiple}
 use Rattle.vm_leaf.specs.declared.leaf.rest.Rest.{Rest}
 use Rattle.vm_leaf.specs.declared.leaf.rest.Rest.TheVariants.{Nothing, Before, After, Both}
 use Rattle.vm_leaf.specs.declared.leaf.TheConstants.{MIN_BLOCKS}

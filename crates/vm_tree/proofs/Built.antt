@@ -35,11 +35,17 @@ use Rattle.std.proofs.Math.Pow.{pow_mono}
 use Rattle.std.proofs.Math.Nat.{add-mul, pow-suc}
 use Rattle.vm_leaf.specs.declared.block.Block.{Block}
 use Rattle.vm_tree.specs.Shape.{Shape, Tip, Fork, blocks, height_of, node_count, leaf_count, IsBalanced, HasFullLeaves, IsRooted}
-use Rattle.vm_tree.specs.Building.{IsPlan, IsLeafHeight, IsBuiltLeaf, IsBuilt}
+use Rattle.vm_tree.specs.Building.{IsPlan, IsLeafHeight, IsBuilt}
 use Rattle.vm_leaf.specs.Blocks.{start_of}
 use Rattle.vm_leaf.specs.declared.leaf.TheConstants.{CAPACITY, MIN_BLOCKS}
 use Rattle.vm_tree.proofs.Lists.{start_append}
 use Rattle.vm_tree.proofs.Trees.{full_rooted, rooted_some}
+
+-- A leaf of the first n blocks, and the list of the other blocks.
+pub record IsBuiltLeaf (n : ℕ) (old : List Block) (tree : Shape) (new : List Block) : Type 0 where
+  pub cut : old ≡ blocks tree ++ new
+  pub tip : tree ≡ Tip (blocks tree)
+  pub count : length (blocks tree) ≡ n
 
 -- ---- The plan of a tree and those of its halves
 module _ (n e m low more : ℕ) (p : IsPlan n e m) (two : n ≢ 1) (half : low ≡ n / 2) (share : more ≡ min m low) where

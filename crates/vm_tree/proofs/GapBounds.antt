@@ -1,34 +1,6 @@
 -- A search within a window enters the paths to the ends of the window and to the place that it finds. It also enters subtrees
 -- with a part of a gap that has no place.
-use Rattle.std.proofs.Common.{
-  ◌≡◌,
-  ℕ,
-  ◌+◌,
-  ◌-◌,
-  ◌*◌,
-  ◌<◌,
-  ◌≤◌,
-  max,
-  min,
-  Bool,
-  true,
-  false,
-  cond,
-  ltb,
-  leb,
-  List,
-  [],
-  ◌∷◌,
-  ◌++◌,
-  length,
-  refl,
-  sym,
-  ap,
-  ◌∙◌,
-  arith,
-  ⊎_elim,
-  subst,
-}
+use Rattle.std.proofs.Common.{◌≡◌, ℕ, ◌+◌, ◌-◌, ◌*◌, ◌<◌, ◌≤◌, max, Bool, true, false, cond, ltb, leb, List, [], ◌∷◌, ◌++◌, length, refl, sym, ap, ◌∙◌, arith, ⊎_elim, subst}
 use Rattle.std.specs.List.{list_any, filter}
 use Rattle.std.proofs.Math.Nat.{mul-le-mul}
 use Rattle.std.proofs.lemmas.List.{length-append}

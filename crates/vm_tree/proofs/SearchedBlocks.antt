@@ -49,7 +49,8 @@ use Rattle.vm_leaf.specs.Block.{is_free, free_length}
 use Rattle.vm_leaf.specs.Blocks.{Tiles, nth, start_of, end_of, longest_gap, IsRun}
 use Rattle.vm_leaf.specs.Fit.{IsFit, HasNoFit}
 use Rattle.vm_leaf.specs.Windows.{cut_to, HaveNoFitIn}
-use Rattle.vm_leaf.specs.Multiples.{HasMultiple, has_multiple, alignment_count, free_alignments, most_alignments}
+use Rattle.vm_leaf.specs.Multiples.{has_multiple, alignment_count, free_alignments, most_alignments}
+use Rattle.vm_leaf.proofs.Highest.{HasMultiple}
 use Rattle.vm_leaf.proofs.Tiles.{tiles_part}
 use Rattle.vm_leaf.proofs.MultiplesBetween.{multiple_is_exact, count_is_exact}
 use Rattle.vm_tree.specs.Allocation.{HasNoFitIn}

@@ -1,33 +1,5 @@
 -- Trees that are balanced, mended and joined.
-use Rattle.std.proofs.Common.{
-  ◌≡◌,
-  ℕ,
-  zero,
-  suc,
-  ◌+◌,
-  ◌-◌,
-  ◌*◌,
-  ◌<◌,
-  ◌≤◌,
-  max,
-  List,
-  [],
-  ◌∷◌,
-  ◌++◌,
-  length,
-  take,
-  drop,
-  refl,
-  ap,
-  ◌∙◌,
-  sym,
-  subst,
-  arith,
-  append_assoc,
-  length-append,
-  length-drop,
-  length-take-le,
-}
+use Rattle.std.proofs.Common.{◌≡◌, ◌+◌, ◌-◌, ◌*◌, ◌<◌, ◌≤◌, max, List, ◌++◌, length, refl, ap, ◌∙◌, sym, subst, arith, append_assoc, length-append}
 use Rattle.vm_leaf.specs.declared.block.Block.{Block}
 use Rattle.vm_leaf.specs.Blocks.{start_of, IsRun}
 use Rattle.vm_leaf.specs.declared.leaf.TheConstants.{CAPACITY, MIN_BLOCKS}
@@ -36,7 +8,7 @@ use Rattle.vm_leaf.specs.TreeHeights.{DifferByAtMost}
 use Rattle.vm_tree.specs.Mending.{leaf_len, end_len, JoinsNext, CanBalance, CanMend, Mends, JoinsLeaves, Shrinks, Loses, CanMendTree, MendsTree}
 use Rattle.vm_tree.specs.declared.end.End.{End}
 use Rattle.vm_tree.specs.declared.end.End.TheVariants.{First, Last}
-use Rattle.vm_tree.proofs.Lists.{start_append, cover_left, cover_right, drop_append, take_append, cover_drop, cover_take, first_append, last_append}
+use Rattle.vm_tree.proofs.Lists.{start_append, cover_left, cover_right, first_append, last_append}
 
 -- A tree of full leaves has at least MIN_BLOCKS blocks.
 pub full_some : (s : Shape) → HasFullLeaves s → MIN_BLOCKS ≤ length (blocks s)

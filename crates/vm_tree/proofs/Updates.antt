@@ -12,22 +12,7 @@ use Rattle.vm_tree.specs.declared.link.Link.TheVariants as link
 use Rattle.vm_tree.specs.declared.change.Change.{Change}
 use Rattle.vm_tree.specs.declared.change.Change.TheVariants.{Nothing, FreeOnly, Structure}
 use Rattle.vm_tree.proofs.Lists.{longest_append, alignments_append}
-use Rattle.vm_tree.proofs.Trees.{
-  full_some,
-  full_rooted,
-  rooted_full,
-  tall,
-  high,
-  left_some,
-  right_some,
-  tree_left,
-  tree_right,
-  cover_of_left,
-  cover_of_right,
-  unchanged,
-  can_mend,
-  shrunk,
-}
+use Rattle.vm_tree.proofs.Trees.{rooted_full, tall, left_some, right_some, tree_left, tree_right, cover_of_left, cover_of_right, unchanged, can_mend, shrunk}
 
 -- The summary beside a link is correct if its parts are those of the subtree.
 pub summed_by : (t : Link) → IsFreeOf (side t) (stored_longest t) (stored_alignments t) → stored_height t ≡ height_of (side t) → IsSummed t

@@ -1,11 +1,10 @@
 -- The blocks of a space with held ranges, and the tree that is built of them.
-use Rattle.std.specs.Prelude.{◌≡◌, ℕ, ◌+◌, ◌-◌, ◌*◌, ◌^◌, ◌<◌, ◌≤◌, List, [], ◌∷◌, ◌++◌, length, if◌then◌else◌, nat_lt}
-use Rattle.vm_ranges.specs.Range.{Range, MAX}
-use Rattle.vm_ranges.specs.declared.state.NodeState.TheVariants.{Free, Allocated}
+use Rattle.std.specs.Prelude.{◌≡◌, ℕ, ◌+◌, ◌*◌, ◌^◌, ◌<◌, ◌≤◌, List, ◌++◌, length}
+use Rattle.vm_ranges.specs.Range.{MAX}
 use Rattle.vm_leaf.specs.declared.block.Block.{Block}
 use Rattle.vm_leaf.specs.declared.leaf.TheConstants.{CAPACITY, MIN_BLOCKS}
-use Rattle.vm_tree.specs.Shape.{Shape, Tip, blocks, height_of, node_count, leaf_count, IsBalanced, HasFullLeaves, IsRooted, IsTree}
-use Rattle.vm_leaf.specs.TreeHeights.{MAX_HEIGHT, TOO_MANY_BLOCKS, IsLowestHeight}
+use Rattle.vm_tree.specs.Shape.{Shape, blocks, height_of, node_count, leaf_count, IsBalanced, HasFullLeaves, IsRooted, IsTree}
+use Rattle.vm_leaf.specs.TreeHeights.{MAX_HEIGHT, IsLowestHeight}
 use Rattle.vm_tree.specs.declared.build.BlockCursor.{BlockCursor}
 use Rattle.vm_ranges.specs.Address.{AreInOrder}
 use Rattle.vm_leaf.specs.SpaceBlocks.{blocks_between}
@@ -34,12 +33,6 @@ pub record IsPlan (leaves each more : ℕ) : Type 0 where
 -- No tree of n leaves is lower than h, and a tree that is built by halves has this height.
 abbrev pub IsLeafHeight : ℕ → ℕ → Type 0
 IsLeafHeight n h = (2 * n ≤ 2 ^ h) × (2 ^ h < 4 * n)
-
--- A leaf of the first n blocks, and the list of the other blocks.
-pub record IsBuiltLeaf (n : ℕ) (old : List Block) (tree : Shape) (new : List Block) : Type 0 where
-  pub cut : old ≡ blocks tree ++ new
-  pub tip : tree ≡ Tip (blocks tree)
-  pub count : length (blocks tree) ≡ n
 
 -- A tree of the first blocks by a plan, and the list of the other blocks.
 pub record IsBuilt (leaves each more : ℕ) (old : List Block) (tree : Shape) (new : List Block) : Type 0 where

@@ -2,7 +2,7 @@
 use Rattle.std.specs.Prelude.{ℕ, ◌+◌, ◌≤◌, ◌<◌, max, List, ◌++◌, length}
 use Rattle.vm_leaf.specs.declared.block.Block.{Block}
 use Rattle.vm_leaf.specs.declared.leaf.TheConstants.{CAPACITY, MIN_BLOCKS}
-use Rattle.vm_leaf.specs.TreeHeights.{MAX_HEIGHT, DifferByAtMost}
+use Rattle.vm_leaf.specs.TreeHeights.{DifferByAtMost}
 
 -- A leaf with its blocks, or a left and a right subtree.
 pub data Shape : Type 0 where

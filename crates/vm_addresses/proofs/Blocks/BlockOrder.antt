@@ -1,12 +1,20 @@
 -- Lists of blocks in order, and the block that contains an address.
-use Rattle.std.proofs.Common.{◌≡◌, ℕ, ◌+◌, true, leb, List, [], ◌∷◌, Some, arith}
+use Rattle.std.proofs.Common.{◌≡◌, ℕ, ◌+◌, true, leb, List, [], ◌∷◌, Some, arith, ◌<◌, ◌≤◌, ◌⊎◌}
 use Rattle.std.proofs.lemmas.Bool.{and_parts, leb-true, le-leb}
 use Rattle.vm_ranges.specs.Range.{Range, IsIn, at_address}
 use Rattle.vm_ranges.specs.RangeOrder.{covers}
 use Rattle.vm_leaf.specs.declared.block.Block.{Block}
 use Rattle.vm_leaf.specs.Blocks.{Tiles}
-use Rattle.vm_addresses.specs.Tree.BlockList.{IsOrderedFrom}
 use Rattle.vm_ranges.specs.declared.state.NodeState.{NodeState}
+
+-- The range r does not fill k.
+abbrev pub NeedsSplit : Range → Range → Type 0
+NeedsSplit k r = (k.start < r.start) ⊎ (r.end < k.end)
+
+-- The keys are in order and do not overlap, and the first key starts at lo or above.
+abbrev pub IsOrderedFrom : ℕ → List Block → Type 0
+IsOrderedFrom lo [] = Unit {0}
+IsOrderedFrom lo (b ∷ bs) = (lo ≤ b.key.start) × (b.key.start ≤ b.key.end) × IsOrderedFrom (b.key.end + 1) bs
 
 -- The blocks of a tiling are in order.
 pub tiles_ordered : (p : NodeState) (lo hi : ℕ) (bs : List Block) → Tiles p lo bs hi → IsOrderedFrom lo bs

@@ -5,7 +5,6 @@ use Rattle.vm_ranges.specs.RangeOrder.{covers}
 use Rattle.vm_leaf.specs.declared.block.Block.{Block}
 use Rattle.vm_leaf.specs.SpaceBlocks.{held_of}
 use Rattle.vm_tree.specs.Lookups.{find_superset}
-use Rattle.vm_addresses.specs.Tree.BlockList.{IsOrderedFrom}
 use Rattle.vm_addresses.specs.Queries.{free_of, IsRangeAt, meeting}
 use Rattle.vm_tree.specs.Walks.{meets, meeting_blocks}
 use Rattle.vm_ranges.specs.declared.state.NodeState.{NodeState}
@@ -13,7 +12,7 @@ use Rattle.vm_ranges.specs.declared.state.NodeState.TheVariants.{Free, Allocated
 use Rattle.vm_leaf.proofs.Spaces.Gaps.{state_cases}
 use Rattle.vm_leaf.proofs.Spaces.OneList.{held_of-free, held_of-held}
 use Rattle.vm_ranges.proofs.PlainWords.{IsHeldAddress, IsHeld, contains_held, all_miss}
-use Rattle.vm_addresses.proofs.Blocks.BlockOrder.{some_same, covers_in, in_covers}
+use Rattle.vm_addresses.proofs.Blocks.BlockOrder.{some_same, covers_in, in_covers, IsOrderedFrom}
 use Rattle.vm_addresses.proofs.Walking.GapsInTrees.{free_of-free, free_of-held}
 
 -- The ranges of a list of blocks are those of the blocks in the state `kept`, in order.

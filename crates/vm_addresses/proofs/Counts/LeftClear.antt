@@ -6,7 +6,7 @@ use Rattle.vm_leaf.specs.declared.block.Block.{Block}
 use Rattle.vm_ranges.specs.Address.{SplitsGap}
 use Rattle.vm_leaf.specs.Blocks.{Tiles, IsTakenFrom}
 use Rattle.vm_leaf.specs.SpaceBlocks.{TilesSpace, held_of, blocks_state}
-use Rattle.vm_addresses.specs.Tree.BlockEdits.{NeedsSplit}
+use Rattle.vm_addresses.proofs.Blocks.BlockOrder.{NeedsSplit}
 use Rattle.vm_ranges.specs.declared.state.NodeState.{NodeState}
 use Rattle.vm_ranges.specs.declared.state.NodeState.TheVariants.{Free, Allocated}
 use Rattle.vm_ranges.proofs.PlainWords.{IsHeldAddress, none_holds}

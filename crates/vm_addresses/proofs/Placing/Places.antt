@@ -18,7 +18,7 @@ use Rattle.vm_ranges.specs.Windows.{common, within, window_in}
 use Rattle.vm_ranges.specs.Address.{AddressState, SplitsGap, holding}
 use Rattle.vm_ranges.specs.Answer.{SPLIT_LIMIT_MIN_HELD, IsChosen, AllocatesAt, Grants}
 use Rattle.vm_leaf.specs.SpaceBlocks.{held_of, blocks_state, TilesSpace}
-use Rattle.vm_addresses.specs.Tree.BlockEdits.{NeedsSplit}
+use Rattle.vm_addresses.proofs.Blocks.BlockOrder.{NeedsSplit}
 use Rattle.vm_tree.specs.Allocation.{ListPlace, IsPlaceIn, IsClosestPlace, range_at, window_of, HasNoPlace, SettlesAt, IsTakenAt, IsSplitAt, AllocatesFit}
 use Rattle.vm_tree.specs.declared.end.End.{End}
 use Rattle.vm_tree.specs.declared.end.End.TheVariants.{First, Last}

@@ -57,7 +57,7 @@ use Rattle.vm_tree.specs.Heights.{held_blocks, one_if_held}
 use Rattle.vm_tree.specs.NodeCounts.{has_fit_in, nodes_to_address, nodes_to_fit}
 use Rattle.vm_tree.specs.Placing.{IsStartIn}
 use Rattle.vm_tree.specs.Roots.{IsBlockTree, IsPathLength}
-use Rattle.vm_tree.specs.Shape.{Shape, blocks, height_of, node_count}
+use Rattle.vm_tree.specs.Shape.{Shape, blocks, height_of}
 use Rattle.vm_tree.specs.declared.end.End.{End}
 use Rattle.vm_tree.specs.declared.end.End.TheVariants.{First, Last}
 use Rattle.vm_tree.specs.declared.search.Search.{Search}

@@ -6,7 +6,7 @@ use Rattle.vm_leaf.specs.declared.block.Block.{Block}
 use Rattle.vm_ranges.specs.Address.{AddressState, with_range, holding, SplitsGap}
 use Rattle.vm_leaf.specs.Blocks.{NotBothFree, Tiles, after_part, parts, IsTakenFrom}
 use Rattle.vm_leaf.specs.SpaceBlocks.{held_of, IsBlocksOf, blocks_state, TilesSpace, AreBelowMax}
-use Rattle.vm_addresses.specs.Tree.BlockEdits.{NeedsSplit}
+use Rattle.vm_addresses.proofs.Blocks.BlockOrder.{NeedsSplit}
 use Rattle.vm_ranges.specs.declared.state.NodeState.{NodeState}
 use Rattle.vm_ranges.specs.declared.state.NodeState.TheVariants.{Free, Allocated}
 use Rattle.vm_leaf.proofs.Spaces.Gaps.{state_cases, InFreeBlock, free_is_clear}

@@ -6,13 +6,12 @@ use Rattle.vm_ranges.specs.Range.{Range, at_address}
 use Rattle.vm_leaf.specs.declared.block.Block.{Block}
 use Rattle.vm_leaf.specs.SpaceBlocks.{TilesSpace, held_of}
 use Rattle.vm_tree.specs.Lookups.{find_superset}
-use Rattle.vm_addresses.specs.Tree.BlockList.{IsOrderedFrom}
 use Rattle.vm_tree.specs.Shape.{Shape, blocks}
 use Rattle.vm_addresses.specs.Allocator.{space_of, state_of, IsSpaceTree}
 use Rattle.vm_addresses.specs.Queries.{free_of, IsRangeAt, IsHeldAt, IsGapAt}
 use Rattle.vm_ranges.specs.declared.state.NodeState.TheVariants.{Free, Allocated}
 use Rattle.vm_addresses.proofs.Blocks.PickedRanges.{held_picked, free_picked, range_at, other_at, none_at}
-use Rattle.vm_addresses.proofs.Blocks.BlockOrder.{tiles_ordered}
+use Rattle.vm_addresses.proofs.Blocks.BlockOrder.{tiles_ordered, IsOrderedFrom}
 use Rattle.vm_ranges.proofs.PlainWords.{held_contains}
 use Rattle.vm_addresses.proofs.Results.HeldAndGaps.{held_at_agrees}
 use Rattle.vm_addresses.proofs.Trees.Spaces.{state_of_tree}

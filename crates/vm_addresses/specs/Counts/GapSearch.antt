@@ -12,10 +12,6 @@ use Rattle.vm_ranges.specs.declared.error.Error.{Error}
 use Rattle.vm_ranges.specs.declared.error.Error.TheVariants.{ResourceNotAvailable}
 use Rattle.vm_tree.specs.GapSearch.{is_misaligned, on_part}
 
--- The number of misaligned gaps in a list of blocks.
-abbrev pub misaligned_among : ℕ → ℕ → List Block → ℕ
-misaligned_among n a bs = length (filter (is_misaligned n a) bs)
-
 -- The number of blocks that pass the test, or whose parts in the window do if there is a window.
 abbrev pub passing : Option Range → (Block → Bool) → List Block → ℕ
 passing None test bs = length (filter test bs)

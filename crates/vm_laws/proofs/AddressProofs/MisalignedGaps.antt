@@ -14,11 +14,15 @@ use Rattle.vm_leaf.specs.Fit.{HasNoFit}
 use Rattle.vm_ranges.specs.Address.{AddressState}
 use Rattle.vm_leaf.specs.Windows.{cut_to}
 use Rattle.vm_tree.specs.GapSearch.{is_misaligned, on_part}
-use Rattle.vm_addresses.specs.Counts.GapSearch.{misaligned_among, passing, misaligned_gaps}
+use Rattle.vm_addresses.specs.Counts.GapSearch.{passing, misaligned_gaps}
 use Rattle.vm_laws.specs.AddressLaws.{MisalignedIsExact, NoneIsMisalignedAtOne}
 use Rattle.vm_tree.specs.NodeCounts.{has_fit}
 use Rattle.vm_tree.proofs.GapBounds.{among_append}
 use Rattle.vm_tree.proofs.SearchedBlocks.{fit_found, no_fit_missed}
+
+-- The number of misaligned gaps in a list of blocks.
+abbrev pub misaligned_among : ℕ → ℕ → List Block → ℕ
+misaligned_among n a bs = length (filter (is_misaligned n a) bs)
 
 not_true : (t : Bool) → not t ≡ true → t ≡ false
 not_true true e = sym e

@@ -1,5 +1,5 @@
 -- The allocators that are read of their texts.
-use Rattle.std.proofs.Common.{◌≡◌, ◌⊎◌, ℕ, ◌+◌, ◌≤◌, ◌∷◌, [], List, Option, Some, None, codes, refl, sym, ap, ◌∙◌, arith, subst, Result, Ok, Err, MatchResult}
+use Rattle.std.proofs.Common.{◌≡◌, ◌⊎◌, ℕ, ◌≤◌, List, Some, None, sym, ◌∙◌, arith, subst, Result, Ok, Err, MatchResult}
 use Rattle.std.proofs.lemmas.Option.{same_Some}
 use Rattle.serde_json.specs.Data.{Data, depth}
 use Rattle.serde_json.specs.Errors.{IsMemory}

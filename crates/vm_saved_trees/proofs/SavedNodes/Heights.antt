@@ -3,7 +3,12 @@ use Rattle.std.proofs.Common.{◌≡◌, ℕ, ◌+◌, ◌*◌, ◌^◌, ◌<◌
 use Rattle.std.proofs.lemmas.Bool.{cases_lt}
 use Rattle.std.proofs.Math.Nat.{pow-suc}
 use Rattle.vm_leaf.specs.TreeHeights.{IsLowestHeight, MAX_HEIGHT}
-use Rattle.vm_saved_trees.specs.NodeTree.{NodeTree, Tip, Fork, node_blocks, node_height, number_of_nodes}
+use Rattle.vm_saved_trees.specs.NodeTree.{NodeTree, Tip, Fork, node_blocks, node_height}
+
+-- The number of nodes.
+abbrev pub number_of_nodes : NodeTree → ℕ
+number_of_nodes Tip = 0
+number_of_nodes (Fork l b r) = number_of_nodes l + number_of_nodes r + 1
 
 pub power_grows : (a b : ℕ) → a ≤ b → 2 ^ a ≤ 2 ^ b
 power_grows a zero p = let e : a ≡ 0 = omega arith in rw e (omega arith)
