@@ -104,3 +104,5 @@ pub four_ids : (words : List (List ℕ)) (rest : Option (List ℕ)) (text : List
 four_ids words rest text number second third fourth i j first some three is js =
     four_some words (words_after rest) number first ∙ ap (λ r. ids_among number (three_in number_of (words_after r))) some
     ∙ ap (ids_among number) (sym three) ∙ rw (is, js) refl
+
+pub ruleset four_words = (four_none, four_less, four_ids, converted)

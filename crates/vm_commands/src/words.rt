@@ -98,7 +98,7 @@ pub(crate) fn two_ids(text: &[u8]) -> Option<(u32, u32)>
 }
 
 /// Returns the two ids and the two numbers of a text of four words.
-#[tactic(auto, using(crate::proofs::IdNumbers::four_none, crate::proofs::IdNumbers::four_some, crate::proofs::IdNumbers::four_less, crate::proofs::IdNumbers::four_ids, crate::proofs::IdNumbers::converted))]
+#[tactic(auto, using(crate::proofs::IdNumbers::four_words))]
 pub(crate) fn ids_and_numbers(text: &[u8]) -> Option<((u32, u32), (u64, u64))>
     ensures { result ≡ four_in id_of number_of (words_of text.now) }
 {

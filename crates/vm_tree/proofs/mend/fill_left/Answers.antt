@@ -1,4 +1,4 @@
--- The left leaf is filled from the first leaf of the right node. The prover does not substitute this node by its children, as the lemmas need.
+-- The left leaf is filled from the first leaf of the right node. The prover does not replace this node by its children, as the lemmas need.
 use Rattle.std.proofs.Common.{◌≡◌, ◌∙◌, sym}
 use Rattle.vm_tree.specs.Shape.{Fork}
 use Rattle.vm_tree.specs.Links.{side}

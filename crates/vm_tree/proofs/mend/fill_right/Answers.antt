@@ -1,4 +1,4 @@
--- The right leaf is filled from the last leaf of the left node. The prover does not substitute this node by its children, as the lemmas need.
+-- The right leaf is filled from the last leaf of the left node. The prover does not replace this node by its children, as the lemmas need.
 use Rattle.std.proofs.Common.{◌≡◌, ◌∙◌, sym}
 use Rattle.vm_tree.specs.Shape.{Fork}
 use Rattle.vm_tree.specs.Links.{side}

@@ -1,5 +1,5 @@
 -- Twenty bytes are appended, and those after the number are removed.
--- The prover does not get the length of the array that is cut from the length of the text, nor cut a joined list.
+-- A lemma on the lengths states this, but the search with it gives up at its limits.
 use Rattle.std.proofs.Common.{◌-◌, ◌≤◌, ◌++◌, ◌∙◌, ap, length, arith, length-take-le}
 use Rattle.vm_commands.proofs.Decimals.{twenty_more, cut_back}
 use Rattle.vm_commands.proofs.buffer.Buffer.push_number.Goals as goal
