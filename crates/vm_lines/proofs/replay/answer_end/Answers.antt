@@ -1,3 +1,4 @@
+-- The text of the buffer and of the last line is written. The prover does not choose this text, nor chain two writes to one.
 use Rattle.std.proofs.Common.{◌++◌}
 use Rattle.std.proofs.KnownBytes.{Appends-kept}
 use Rattle.vm_lines.proofs.Known.{moves_drain}

@@ -1,3 +1,4 @@
+-- The text of the last line is written or in the buffer. The prover does not choose this text, nor chain two moves of text to one.
 use Rattle.std.proofs.Common.{◌≡◌, [], true, rules}
 use Rattle.vm_lines.proofs.Known.{moves_text}
 use Rattle.vm_lines.proofs.Progress.{answers_last_some}

@@ -1,3 +1,4 @@
+-- The text, the id and the range fit into the buffer. A lemma gives the length of the id, but the search with it gives up at its limits.
 use Rattle.std.proofs.Common.{◌<◌, ◌^◌, arith, rules}
 use Rattle.std.specs.Prelude.{codes}
 use Rattle.vm_commands.proofs.Decimals.{id_behind}
