@@ -27,7 +27,8 @@ use Rattle.vm_chunks.proofs.Runs.{
   all_below,
   none_above,
   none_below,
-, lowest_of}
+  lowest_of,
+}
 
 -- The runs new have the id and those of old, and one id more. Only private functions cite it.
 pub record Puts (id : ℕ) (old new : List Run) : Type 0 where

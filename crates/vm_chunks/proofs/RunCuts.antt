@@ -24,7 +24,8 @@ use Rattle.vm_chunks.proofs.Runs.{
   none_above,
   none_below,
   found_near,
-, lowest_of}
+  lowest_of,
+}
 use Rattle.vm_chunks.proofs.RunChanges.{count_of, count_parts, count_more, with_own, without_own, below_own, own_entry, no_own_entry}
 
 -- The run that a search finds has the id if it begins up to it.

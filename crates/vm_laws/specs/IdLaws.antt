@@ -35,4 +35,3 @@ abbrev pub IdCountFindsAll : Type 0
 IdCountFindsAll =
     (state : IdState) (list : List ℕ) → AllPairs (λ i j. i ≢ j) list → All (IsHeld state) list →
     (length list ≡ held_count state) ↔ ((i : ℕ) → IsHeld state i → Contains list i)
-

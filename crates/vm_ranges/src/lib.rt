@@ -6,6 +6,8 @@
 //! - The value of a [`RangeInclusive`] is a `Range`, which `IsRange` accepts. The value of a
 //!   [`Constraint`] is a `Request`, which `IsRequest` accepts.
 //! - Errors, policies and states are Rust types (`specs.declared`).
+//! - `Address` defines the state of an address allocator (`AddressState`), and `Answer` the results of its
+//!   calls (`Makes`, `Allocates`, `Frees`).
 //! - `Histories` defines lists of calls, and their laws, for the crates above.
 //!
 //! # What is proved

@@ -15,10 +15,11 @@ split-requires-clause-bounded g c =
     let l : c.bounds_above-at.result < length c.args.chunks.now.items = search rules in
     omega arith
 
--- The chunk is there, and is cut before one of its entries.
+-- The chunk is in the list.
 within : (g : _) (c : In_ok-bound g) → c.bounds_above-at.result < length c.args.chunks.now.items
 within g c = search rules
 
+-- The chunk is cut before one of its entries.
 cut : (g : _) (c : In_ok-bound g) → c.kept_for-kept.result < length (get_or c.args.chunks.now.items c.bounds_above-at.result [])
 cut g c =
     subst (λ x. c.kept_for-kept.result < length x)

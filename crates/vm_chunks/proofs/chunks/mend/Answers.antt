@@ -12,13 +12,15 @@ join-requires-clause-bounds g c =
     let l : c.min.result + 1 < length c.args.chunks.now.items = search rules in
     omega (arith, n, l)
 
--- There are two chunks, and the one at `at` is joined with the one before or behind it.
+-- There are two chunks.
 several : (g : _) (c : After-join g) → 2 ≤ length c.args.chunks.now.items
 several g c = search rules
 
+-- The two chunks that are joined are in the list.
 within : (g : _) (c : After-join g) → c.min.result + 1 < length c.args.chunks.now.items
 within g c = search rules
 
+-- The changed chunk is one of the two.
 near : (g : _) (c : After-join g) → (c.args.at ≡ c.min.result) ⊎ (c.args.at ≡ c.min.result + 1)
 near g c = elim (cases_lt c.args.at (length c.args.chunks.now.items - 1)) [
   | inl q ↦ inl (search rules)

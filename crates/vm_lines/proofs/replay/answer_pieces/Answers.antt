@@ -1,5 +1,5 @@
--- Each turn reads and answers one piece more, and the end answers the last line.
--- The prover does not choose the bytes and the text that the invariant says there are, nor join those of two pieces.
+-- Each turn reads one piece more and writes its replies, and the end writes that of the last line.
+-- The prover does not choose the bytes and the text of the invariant, nor join those of two pieces.
 use Rattle.std.proofs.Common.{◌≡◌, ◌++◌, [], arith, rules, take, length, ◌<◌, append-nil}
 use Rattle.std.proofs.KnownBytes.{Consumes-nil, Consumes-trans, Consumes-kept}
 use Rattle.vm_lines.proofs.Known.{moves_none, moves_both, moves_drain, moves_end, read_end, answers_input, answers_ended}

@@ -1,4 +1,4 @@
--- No variable has the bytes that were read so far, or the text of their replies. So the invariant says that there are such lists.
+-- No variable has the bytes that were read so far, or the text of their replies. So there are such lists by the invariant.
 use Rattle.std.proofs.Common.{List, ℕ, [], length, ◌≡◌}
 use Rattle.std.specs.Io.KnownBytes.{Consumes}
 use Rattle.vm_lines.specs.Moving.{MovesText}

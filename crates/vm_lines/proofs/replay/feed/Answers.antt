@@ -1,4 +1,4 @@
--- Each turn answers one line more. The prover does not choose the text that the invariant says there is, nor regroup joined texts.
+-- Each turn writes the reply to one line more. The prover does not choose the text of the invariant, nor regroup joined texts.
 use Rattle.std.proofs.Common.{◌≡◌, ◌++◌, [], sym, append-nil, append_assoc, rules}
 use Rattle.vm_lines.specs.Sessions.{with_more}
 use Rattle.vm_lines.proofs.Known.{moves_both, moves_text}

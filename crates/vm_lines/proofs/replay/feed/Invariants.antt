@@ -1,4 +1,4 @@
--- No variable has the text of the lines so far. So the invariant says that there is one. The rest of the piece gets shorter.
+-- No variable has the text of the lines so far. So there is one by the invariant. The rest of the piece gets shorter.
 use Rattle.std.proofs.Common.{List, ℕ, ◌++◌, ◌≤◌, length}
 use Rattle.vm_lines.specs.Sessions.{Session, AnswersPiece}
 use Rattle.vm_lines.specs.Moving.{MovesText}

@@ -5,6 +5,7 @@ use Rattle.vm_chunks.proofs.Nearby.{next_is}
 use Rattle.vm_chunks.proofs.chunk.runs.has_next.Goals as goal
 use Rattle.vm_chunks.proofs.chunk.runs.has_next.Goals.{then-at-gt0, else-at-gt0}
 
+-- A run is above the place, or the chunk is the first one.
 above : {at : ℕ} {f : Bool} → (0 < at) ⊎ ((at ≤ 0) × (f ≡ true)) → (0 < at) ⊎ IsTrue f
 above (inl l) = inl l
 above (inr f) = inr f.1

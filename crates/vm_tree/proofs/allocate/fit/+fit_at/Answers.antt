@@ -82,10 +82,11 @@ fit_below-fit_in_child-answer-requires t c =
     let n = nodes_within c.args.search.now c.requires.search c.args.end c.args.node.now (omega arith) c.requires.may_fit in
     (omega arith, (c.requires.search, (c.requires.tree, omega arith)))
 
--- The child at the end has no place, and its node is as before.
+-- After a search without a place, the node is as before.
 same : (t : _) (c : fit_below-After-opposite t) → c.fit_in_child-answer.new.node ≡ c.args.node.now
 same t c = rw c.if-has_no_place.ensures at c.fit_in_child-answer.ensures.change
 
+-- The child at the end has no place.
 none : (t : _) (c : fit_below-After-opposite t) → HasNoPlace c.args.search.now (blocks (child_at c.args.end c.args.node.now))
 none t c = none_closest c.args.end c.args.search.now (blocks (child_at c.args.end c.args.node.now))
     (blocks (child_at c.args.end c.fit_in_child-answer.new.node)) (rw c.if-has_no_place.ensures at c.fit_in_child-answer.ensures.answer)

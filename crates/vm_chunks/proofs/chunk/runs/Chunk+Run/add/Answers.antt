@@ -9,6 +9,7 @@ use Rattle.vm_chunks.specs.declared.id_set.Run.{Run}
 use Rattle.vm_chunks.proofs.Nearby.{no_run, joined_both, joined_upper, joined_lower, joined_none}
 use Rattle.vm_chunks.proofs.chunk.runs.Chunk+Run.add.Goals as goal
 
+-- If a test is false, what it decides is false.
 no : {P : Type 0} → (IsTrue false ↔ P) → P → ⊥
 no if p = true≢false (sym (if.1 p))
 
