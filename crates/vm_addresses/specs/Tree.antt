@@ -1,5 +1,3 @@
-pub mod BlockList
-pub mod BlockEdits
 pub mod Allocation
 pub mod CountedTrees
 pub mod BalancedTree

@@ -2,4 +2,4 @@
 //!
 //! A value can be untrusted input, so the whole value is checked before the first allocation.
 mod allocator;
-mod trees;
+mod nodes;

@@ -5,6 +5,9 @@ ghost use Rattle.vm_tree.specs.Shape.{blocks};
 ghost use Rattle.vm_tree.specs.Building.{IsLowestTree};
 ghost use Rattle.vm_ranges.specs.Address.{IsAddressState};
 ghost use Rattle.vm_ranges.specs.Saving.{Saves, Reads};
+ghost use Rattle.vm_saved_trees.specs.KeyValues.{EncodesAs};
+ghost use Rattle.vm_saved_trees.specs.TreeValues.{EncodesSpaceTree};
+ghost use Rattle.vm_saved_trees.specs.ValueNodes.{WritesTree};
 ghost use Rattle.vm_addresses.specs.Allocator.{state_of, made_state};
 ghost use Rattle.vm_addresses.specs.Values.AllocatorValues.{EncodesAddresses, EncodesRepaired};
 ghost use Rattle.vm_addresses.specs.Checks.AllocatorChecks.{AllocatorParts, WritesAllocator, decoded_parts, decoded_root};
@@ -13,7 +16,7 @@ use crate::address_allocator::AddressAllocator;
 use serde_json::{Value, json};
 use std::alloc::{AllocError, Global};
 use vm_ranges::{RangeInclusive, Result, ValueError, has_fields, range_in};
-use vm_saved_trees::Form;
+use vm_saved_trees::{Form, encode, read_held_keys};
 
 impl AddressAllocator {
     /// Encodes the allocator as a value: its space, and a balanced tree of its blocks.
@@ -90,6 +93,42 @@ impl AddressAllocator {
             return Err(ValueError::NotAState);
         };
         Self::from_root_value(alloc, &parts.space, parts.root, Form::Repaired)
+    }
+
+    /// Returns the value that encodes the tree, with one object for each block.
+    ///
+    /// # Errors
+    ///
+    /// - `OutOfMemory` if an allocation fails.
+    fn to_root_value(&self, alloc: Global) -> Result<Value>
+        ensures answer { Saves (λ d. EncodesSpaceTree d (state_of self.now).space (state_of self.now)) result }
+        // The blocks decide the saved tree.
+        ensures written { Saves (WritesTree (blocks self.now)) result }
+    {
+        // Proof: this shows that the tree is valid.
+        let _tree = &self.tree;
+        let written = self.written_blocks(alloc)?;
+        encode(&written.tree(), alloc)
+    }
+
+    /// Returns the allocator of a space that a value encodes, as a tree that is accepted in this form.
+    ///
+    /// [`from_value`](Self::from_value) and [`from_value_repaired`](Self::from_value_repaired) document the
+    /// errors.
+    fn from_root_value(
+        alloc: Global,
+        space: &RangeInclusive,
+        value: &Value,
+        form: Form,
+    ) -> std::result::Result<Self, ValueError>
+        ensures answer { Reads (EncodesAs form (view value.now) space.now) (made_state result) }
+        ensures low { IfOk result IsLowestTree }
+        ensures state { IfOk result (λ allocator. IsAddressState (state_of allocator)) }
+    {
+        // Proof: this shows that the space is a range.
+        let _end = space.end();
+        let held = read_held_keys(alloc, space, value, form)?;
+        Ok(Self::of_held(alloc, *space, &held)?)
     }
 }
 

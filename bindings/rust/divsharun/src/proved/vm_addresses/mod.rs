@@ -9,6 +9,7 @@
 //! - [`ReadNodes`] reads the nodes of a saved tree, and [`WrittenTree`] has those that are written.
 
 mod address_allocator;
+mod saved;
 
 pub use crate::proved::vm_ranges::{
     AllocPolicy, Condition, Constraint, Error, ListError, RangeInclusive, Result, SavedError,
