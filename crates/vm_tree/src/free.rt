@@ -351,7 +351,7 @@ fn touches(key: &RangeInclusive, edge: u64) -> bool
 
 /// Frees a held range that touches the edge between the children of a node. Returns `None` if it is not there.
 #[inline(never)]
-#[tactic(auto, using(crate::proofs::FreesEdges::edges))]
+#[tactic(auto, using(crate::proofs::FreesEdges::edges, crate::proofs::FreesCounts::free_after, crate::proofs::FreesCounts::free_before, crate::proofs::FreesCounts::counted_above))]
 fn free_at_edge(
     left: &mut Link,
     at: &mut u64,

@@ -170,7 +170,7 @@ impl Tree {
     /// memory, and enters at most three nodes for each level of the tree.
     ///
     /// The range must start in the space, and `count` must be at 0.
-    #[tactic(auto, using(crate::proofs::Roots::freeing, crate::proofs::Roots::heights))]
+    #[tactic(auto, using(crate::proofs::Roots::freeing, crate::proofs::Roots::heights, crate::proofs::FreesCounts::free_leaf, crate::proofs::Roots::freed_root))]
     pub fn free(&mut self, key: &RangeInclusive, count: &mut Steps) -> Option<u64>
         requires start { IsIn (range_of (blocks self.old)) key.now.start }
         requires count { count.old ≡ 0 }

@@ -1,4 +1,4 @@
--- The blocks so far and the next one are a leaf, as all blocks are a run. The prover does not take this run from the cursor before the loop.
+-- The blocks so far and the next one are a leaf, as all blocks are a run. Lemmas state this, but the search with them gives up at its limits.
 use Rattle.std.proofs.Common.{arith}
 use Rattle.vm_tree.specs.Building.{remaining_blocks}
 use Rattle.vm_tree.proofs.BlockCursors.{cursor_run, leaf_one_more, none_of_none}

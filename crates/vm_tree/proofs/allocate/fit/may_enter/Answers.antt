@@ -1,5 +1,5 @@
 -- A child is entered if the window has addresses of it and its gaps look suitable.
--- The prover does not substitute First or Last for the end, nor two children for the node.
+-- A lemma for each end and test states this, but the search with them gives up at its limits.
 use Rattle.std.proofs.Common.{◌∙◌, sym}
 use Rattle.std.proofs.lemmas.Bool.{le-ltb, lt-leb}
 use Rattle.vm_tree.specs.Links.{side}

@@ -1,4 +1,4 @@
--- A gap below both numbers of the summary leaves it as it was. The prover does not build this fact, a record in a tuple with cases that cannot be.
+-- A gap below both numbers of the summary leaves it as it was. A lemma states this, but the search with it gives up at its limits.
 use Rattle.std.proofs.Common.{◌<◌, ◌≤◌, length, ap, arith, rules}
 use Rattle.vm_tree.specs.Shape.{height_of, HasFullLeaves}
 use Rattle.vm_tree.specs.Links.{side, IsSummed}

@@ -1,4 +1,5 @@
--- The tree is valid after the call, as a leaf and as a node. The lemmas take any allocation, and the prover does not derive it from an exact one.
+-- The tree is valid after the call, as a leaf and as a node.
+-- Lemmas state this for any allocation, but the search with them gives up at its limits.
 use Rattle.std.proofs.Common.{◌∙◌, sym, ap, arith}
 use Rattle.vm_tree.specs.Shape.{blocks, height_of}
 use Rattle.vm_tree.specs.Links.{side}
