@@ -56,6 +56,7 @@ impl KeyedList<Run> {
 
     /// Adds an id like `add`, with a search for each run that changes. An error changes nothing.
     #[inline(never)]
+    #[tactic(auto, using(crate::proofs::RunAdds::ends_below, crate::proofs::RunAdds::no_key))]
     fn add_searched(&mut self, alloc: Global, id: u32) -> Result<bool, AllocError>
         requires { AreRuns RUNS_END self.old }
         ensures added { IfOk result (λ is_new. AddsId id is_new self.old self.new) }

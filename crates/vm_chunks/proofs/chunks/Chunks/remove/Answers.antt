@@ -1,4 +1,4 @@
--- Only the chunk that the bounds give can have the key. The prover does not substitute its entries that are left in the list of chunks.
+-- Only the chunk that the bounds give can have the key. Lemmas state this for an index, but the search with them gives up at its limits.
 use Rattle.std.proofs.Common.{rules, ◌<◌, length, set, subst, sym, ap, ◌∙◌}
 use Rattle.vm_chunks.specs.Entries.{IsDescendingBy, without, entry_at}
 use Rattle.vm_chunks.specs.Chunks.{entries_of, AreAllBounded}
