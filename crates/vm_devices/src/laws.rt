@@ -1,6 +1,6 @@
-//! Laws: theorems about the definitions that the contracts of the calls cite.
+//! Laws of devices, each of which holds an id and a range.
 //!
-//! Each law is the contract of a function that does nothing.
+//! Each law is the contract of a function that does nothing. Each is a promise.
 ghost use Rattle.vm_ranges.specs.Histories.{ErrorsChangeNothing, EveryListHasHistory, SameCallsSameResults};
 ghost use Rattle.vm_devices.specs.Histories.{IsDeviceCallFrom};
 ghost use Rattle.vm_devices.specs.Laws.{

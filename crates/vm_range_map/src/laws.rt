@@ -1,6 +1,6 @@
-//! Laws: theorems about the definitions that the contracts of the calls cite.
+//! Laws of maps from ranges to values.
 //!
-//! Each law is the contract of a function that does nothing.
+//! Each law is the contract of a function that does nothing. Each is a promise.
 ghost use Rattle.vm_range_map.specs.Laws.{ValueIsAtItsAddresses, RangesKeepValues, MapsDecide};
 
 /// Proves that `get` returns a range and its value at each address of the range.

@@ -1,4 +1,6 @@
 //! Laws of ranges.
+//!
+//! Each law is a promise.
 ghost use Rattle.vm_ranges.specs.RangeLaws.{RangesAreSets, HashAgreesWithEquality};
 
 /// Proves that overlapping is symmetric, that containing is reflexive and transitive, and that the
