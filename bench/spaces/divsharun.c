@@ -44,12 +44,13 @@ bool allocate_exact(uint64_t size, uint64_t alignment, uint64_t *start)
 bool allocate_within(uint64_t first, uint64_t last, uint64_t size, uint64_t alignment, bool is_highest,
 		     uint64_t *start)
 {
-	dvs_range window = {first, last}, range;
+	dvs_range range;
 	dvs_request request = {
 		.size = size,
 		.alignment = alignment,
 		.policy = is_highest ? DVS_LAST : DVS_FIRST,
-		.window = &window,
+		.low = first,
+		.high = last,
 	};
 
 	return started(dvs_range_allocate(space, &request, &range, NULL), &range, start);

@@ -187,9 +187,8 @@ typedef struct dvs_range {
 /* Details of an error or a conflict. The other members are 0. */
 typedef struct dvs_refusal {
     /*
-     * DVS_INVALID_RANGE, DVS_OVERLAP: the range. DVS_INVALID_STATE_TRANSITION: the
-     * allocated range. With a cause: the requested range, or 0 to 0 if it has no given
-     * start or would end past UINT64_MAX.
+     * DVS_INVALID_RANGE, DVS_OVERLAP: the range. With a cause: the requested range, or 0 to
+     * 0 if it has no given start or would end past UINT64_MAX.
      */
     dvs_range range;
     /* DVS_OVERLAP: the existing range. With a cause: the range that the cause names. */
@@ -201,7 +200,7 @@ typedef struct dvs_refusal {
      * DVS_RESOURCE_NOT_AVAILABLE: the id, if the call was given one.
      */
     uint32_t id;
-    /* DVS_RESOURCE_NOT_AVAILABLE: why the range is not available. */
+    /* DVS_RESOURCE_NOT_AVAILABLE, DVS_INVALID_STATE_TRANSITION: why the range is not available. */
     uint32_t cause;
 } dvs_refusal;
 
@@ -254,7 +253,7 @@ enum {
 
 /*
  * A request for a range of `size` addresses that starts at a multiple of
- * `alignment`. An initializer sets the members that it leaves out to 0 or NULL.
+ * `alignment`. An initializer sets the members that it leaves out to 0.
  */
 typedef struct dvs_request {
     uint64_t size;
@@ -263,13 +262,12 @@ typedef struct dvs_request {
     uint64_t start;
     uint32_t policy;
     /*
-     * The range must lie in this window. NULL if there is none. The pointer must
-     * be valid during the call only.
-     *
-     * A `start` of 0 is no lower limit. An `end` of UINT64_MAX is no upper limit.
-     * With neither limit there is no window, as with NULL.
+     * The window: the lowest and the highest address that the range may have. A `low` of
+     * 0 is no lower limit. A `high` of 0 or UINT64_MAX is no upper limit. With neither
+     * limit there is no window. Use DVS_EXACT for the address 0 alone.
      */
-    const dvs_range *window;
+    uint64_t low;
+    uint64_t high;
 } dvs_request;
 
 /* Limits for a text that is read. 0 is no limit. */
@@ -491,8 +489,7 @@ dvs_status dvs_range_allocate_exact(dvs_address_allocator *allocator, uint64_t s
  * - DVS_INVALID_ALIGNMENT if `alignment` is not a power of two.
  * - DVS_UNALIGNED_ADDRESS if the start of DVS_EXACT is not a multiple of
  *   `alignment`.
- * - DVS_INVALID_RANGE, with the window, if the last address of the window is below
- *   the first.
+ * - DVS_INVALID_RANGE, with the window, if `high` is below `low`, and is not 0.
  * - The other errors of dvs_range_allocate_first(), _last() or _exact(), in the
  *   same order. Addresses outside the window count as outside the space. So no
  *   range fits if the window and the space have no address in common.
@@ -635,7 +632,9 @@ dvs_status dvs_free_length(const dvs_address_allocator *allocator,
  *
  * The function must return. The process ends with abort() if a C++ exception
  * leaves it, if it calls pthread_exit(), or if its thread is cancelled in it.
- * It must not leave by longjmp(), because the object would stay busy.
+ * It must not leave by longjmp(), or by a panic or an exception of another language
+ * that its caller recovers from, because the object would stay busy. Catch it in the
+ * function, end the visit, and throw it again after the visit.
  */
 typedef int dvs_range_visitor(void *context, dvs_range range);
 
@@ -999,6 +998,9 @@ dvs_status dvs_device_reserve(dvs_device_manager *manager, const dvs_request *re
 /*
  * Reserves a device like dvs_device_reserve(), with the lowest free id from
  * `first_id` to `last_id`, both included: exactly this id if both are equal.
+ *
+ * A saved text lists each free id below the highest one that was ever allocated. So it
+ * can be too long for the memory after a reservation of a high id.
  *
  * Errors: those of dvs_device_reserve(), with those of dvs_id_allocate_in() instead
  * of those of dvs_id_allocate().

@@ -1,8 +1,8 @@
 /* SPDX-License-Identifier: Apache-2.0 OR BSD-3-Clause */
 /*
- * The calls of divsharun.h for C++11: owners that destroy their object, requests
- * that own their window, statuses as std::error_code, and lists: copied to a
- * vector, passed to a function, or in a range-based for.
+ * The calls of divsharun.h for C++11: owners that destroy their object, requests,
+ * statuses as std::error_code, and lists: copied to a vector, passed to a function,
+ * or in a range-based for.
  *
  * A method has the rules of its call. It returns the code of the status, which
  * converts to false for DVS_OK, and the compiler warns if the code is ignored.
@@ -236,48 +236,37 @@ class owner {
 };
 
 /*
- * A request that owns its window, so both can be made and used in one line:
+ * A request of C, which can be made and used in one line:
  *
  *     space.allocate(dvs::request::first(0x1000, 0x1000).within({0, UINT32_MAX}), bar);
  *
  * Without within() it has no window. A list of requests is a std::vector<dvs::request>.
  */
 class request {
-    uint64_t size, alignment, start;
-    uint32_t policy;
-    dvs_range window;
-
-    friend class address_allocator;
-    friend class device_manager;
-    friend class range_map;
-    /* A request of C, as an argument of one call. */
-    struct argument {
-        dvs_request asked;
-        operator const dvs_request *() const noexcept { return &asked; }
-    };
-    /* Returns the request of C. It points to the window of this object. */
-    argument for_call() const noexcept { return {{size, alignment, start, policy, &window}}; }
+    dvs_request asked;
 
   public:
-    /* Copies a request of C, and its window. */
-    request(const dvs_request &asked) noexcept
-        : size(asked.size), alignment(asked.alignment), start(asked.start), policy(asked.policy),
-          window(asked.window ? *asked.window : dvs_range{0, UINT64_MAX}) {}
+    request(const dvs_request &request_of_c) noexcept : asked(request_of_c) {}
     static request first(uint64_t size, uint64_t alignment) noexcept {
-        return dvs_request{size, alignment, 0, DVS_FIRST, nullptr};
+        return dvs_request{size, alignment, 0, DVS_FIRST, 0, 0};
     }
     static request last(uint64_t size, uint64_t alignment) noexcept {
-        return dvs_request{size, alignment, 0, DVS_LAST, nullptr};
+        return dvs_request{size, alignment, 0, DVS_LAST, 0, 0};
     }
     static request exact(uint64_t size, uint64_t alignment, uint64_t start) noexcept {
-        return dvs_request{size, alignment, start, DVS_EXACT, nullptr};
+        return dvs_request{size, alignment, start, DVS_EXACT, 0, 0};
     }
-    /* Returns this request with a window, which replaces the one that it had. */
-    request within(dvs_range limits) const noexcept {
+    /*
+     * Returns this request with a window, which replaces the one that it had. The ends of the
+     * window are the members `low` and `high` of a request of C.
+     */
+    request within(dvs_range window) const noexcept {
         request limited = *this;
-        limited.window = limits;
+        limited.asked.low = window.start;
+        limited.asked.high = window.end;
         return limited;
     }
+    const dvs_request &get() const noexcept { return asked; }
 };
 
 using space_owner =
@@ -390,14 +379,14 @@ class address_allocator : public space_owner {
     }
     error allocate(const request &asked, dvs_range &range,
                    dvs_refusal *refusal = nullptr) noexcept {
-        return dvs_range_allocate(get(), asked.for_call(), &range, refusal);
+        return dvs_range_allocate(get(), &asked.get(), &range, refusal);
     }
     error allocate_all(const std::vector<request> &requests, std::vector<dvs_range> &ranges,
                        std::size_t *failed = nullptr, dvs_refusal *refusal = nullptr) {
         std::vector<dvs_request> all;
         std::vector<dvs_range> allocated(requests.size());
         for (const request &one : requests)
-            all.push_back(one.for_call().asked);
+            all.push_back(one.get());
         error failure = dvs_address_allocator_allocate_all(get(), all.data(), all.size(),
                                                            allocated.data(), failed, refusal);
         if (!failure)
@@ -413,10 +402,10 @@ class address_allocator : public space_owner {
     }
     error move_range(dvs_range range, const request &asked, dvs_range &moved,
                      dvs_refusal *refusal = nullptr) noexcept {
-        return dvs_range_move_request(get(), range, asked.for_call(), &moved, refusal);
+        return dvs_range_move_request(get(), range, &asked.get(), &moved, refusal);
     }
     error conflict(const request &asked, dvs_refusal &found) const noexcept {
-        return dvs_range_conflict(get(), asked.for_call(), &found);
+        return dvs_range_conflict(get(), &asked.get(), &found);
     }
     error space(dvs_range &space) const noexcept {
         return dvs_address_allocator_space(get(), &space);
@@ -547,19 +536,18 @@ class device_manager
     }
     error reserve(const request &asked, dvs_device &device,
                   dvs_refusal *refusal = nullptr) noexcept {
-        return dvs_device_reserve(get(), asked.for_call(), &device, refusal);
+        return dvs_device_reserve(get(), &asked.get(), &device, refusal);
     }
     error reserve_with_id(uint32_t first_id, uint32_t last_id, const request &asked,
                           dvs_device &device, dvs_refusal *refusal = nullptr) noexcept {
-        return dvs_device_reserve_with_id(get(), first_id, last_id, asked.for_call(), &device,
-                                          refusal);
+        return dvs_device_reserve_with_id(get(), first_id, last_id, &asked.get(), &device, refusal);
     }
     error move(uint32_t id, const request &asked, dvs_range &range,
                dvs_refusal *refusal = nullptr) noexcept {
-        return dvs_device_move(get(), id, asked.for_call(), &range, refusal);
+        return dvs_device_move(get(), id, &asked.get(), &range, refusal);
     }
     error conflict(const request &asked, dvs_refusal &found) const noexcept {
-        return dvs_device_conflict(get(), asked.for_call(), &found);
+        return dvs_device_conflict(get(), &asked.get(), &found);
     }
     error release(uint32_t id, dvs_refusal *refusal = nullptr) noexcept {
         return dvs_device_release(get(), id, refusal);
@@ -592,14 +580,14 @@ class range_map
     }
     error allocate(uint64_t value, const request &asked, dvs_range &range,
                    dvs_refusal *refusal = nullptr) noexcept {
-        return dvs_range_map_allocate(get(), value, asked.for_call(), &range, refusal);
+        return dvs_range_map_allocate(get(), value, &asked.get(), &range, refusal);
     }
     error free(dvs_range range, uint64_t &value, dvs_refusal *refusal = nullptr) noexcept {
         return dvs_range_map_free(get(), range, &value, refusal);
     }
     error move(dvs_range range, const request &asked, dvs_range &moved,
                dvs_refusal *refusal = nullptr) noexcept {
-        return dvs_range_map_move(get(), range, asked.for_call(), &moved, refusal);
+        return dvs_range_map_move(get(), range, &asked.get(), &moved, refusal);
     }
     error at(uint64_t address, dvs_valued_range &found) const noexcept {
         return dvs_range_map_get(get(), address, &found);

@@ -8,19 +8,20 @@
 
 /* One space has the addresses of all BARs. A 32-bit BAR lies below the interrupt controllers, which
  * start at 0xfec00000. A 64-bit BAR lies above 4 GiB. */
-static const dvs_range low = {0, 0xfebfffff}, high = {0x100000000, UINT64_MAX};
+#define LAST_BELOW 0xfebfffff
+#define FIRST_ABOVE 0x100000000
 
 /* The registers, the memory and the ROM of a card. */
 static const dvs_request graphics[] = {
-    {.size = 0x4000, .alignment = 0x4000, .policy = DVS_FIRST, .window = &low},
-    {.size = 0x10000000, .alignment = 0x10000000, .policy = DVS_FIRST, .window = &high},
-    {.size = 0x10000, .alignment = 0x10000, .policy = DVS_LAST, .window = &low},
+    {.size = 0x4000, .alignment = 0x4000, .policy = DVS_FIRST, .high = LAST_BELOW},
+    {.size = 0x10000000, .alignment = 0x10000000, .policy = DVS_FIRST, .low = FIRST_ABOVE},
+    {.size = 0x10000, .alignment = 0x10000, .policy = DVS_LAST, .high = LAST_BELOW},
 };
 
 /* A card whose second BAR has 1 GiB, but must lie below 4 GiB. */
 static const dvs_request storage[] = {
-    {.size = 0x1000, .alignment = 0x1000, .policy = DVS_FIRST, .window = &low},
-    {.size = 0x40000000, .alignment = 0x40000000, .policy = DVS_FIRST, .window = &low},
+    {.size = 0x1000, .alignment = 0x1000, .policy = DVS_FIRST, .high = LAST_BELOW},
+    {.size = 0x40000000, .alignment = 0x40000000, .policy = DVS_FIRST, .high = LAST_BELOW},
 };
 
 /* Ends the program if a call fails. */
@@ -66,7 +67,8 @@ static void program_bar(dvs_address_allocator *mmio, dvs_request bar, uint64_t s
 /* Makes a BAR twice as long, in place. It stays unchanged if another range is in the way. */
 static void double_bar(dvs_address_allocator *mmio, dvs_range *range) {
     const uint64_t size = 2 * (range->end - range->start + 1);
-    const dvs_request longer = {size, size, range->start, DVS_EXACT, NULL};
+    const dvs_request longer = {
+        .size = size, .alignment = size, .start = range->start, .policy = DVS_EXACT};
     dvs_refusal refusal;
 
     if (dvs_range_move_request(mmio, *range, &longer, range, &refusal) == DVS_OK)

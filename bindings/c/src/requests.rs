@@ -6,7 +6,7 @@ use crate::proved::vm_addresses::{
 };
 use crate::status::{
     DVS_CAUSE_ALLOCATED, DVS_CAUSE_OUTSIDE_SPACE, DVS_CAUSE_OUTSIDE_WINDOW, DVS_INVALID_POLICY,
-    DVS_RESOURCE_NOT_AVAILABLE,
+    DVS_INVALID_STATE_TRANSITION, DVS_RESOURCE_NOT_AVAILABLE,
 };
 use crate::{dvs_range, dvs_refusal, CallError};
 
@@ -16,15 +16,16 @@ const DVS_EXACT: u32 = 2;
 
 /// A request for a range.
 #[repr(C)]
-pub struct dvs_request<'a> {
+pub struct dvs_request {
     size: u64,
     alignment: u64,
     start: u64,
     policy: u32,
-    window: Option<&'a dvs_range>,
+    low: u64,
+    high: u64,
 }
 
-impl dvs_request<'_> {
+impl dvs_request {
     /// Converts the request.
     ///
     /// # Errors
@@ -41,10 +42,8 @@ impl dvs_request<'_> {
             _ => return Err(DVS_INVALID_POLICY.into()),
         };
         let request = Constraint::new(self.size, self.alignment, policy)?;
-        Ok(match self.window {
-            None => request,
-            Some(window) => request.within_limits(window.start, window.end)?,
-        })
+        let high = if self.high == 0 { u64::MAX } else { self.high };
+        Ok(request.within_limits(self.low, high)?)
     }
 }
 
@@ -69,7 +68,11 @@ pub(crate) fn refused(
     details: impl FnOnce() -> Option<dvs_refusal>,
 ) -> CallError {
     let mut refused = CallError::from(error);
-    if wants_details && refused.status == DVS_RESOURCE_NOT_AVAILABLE {
+    let has_cause = matches!(
+        refused.status,
+        DVS_RESOURCE_NOT_AVAILABLE | DVS_INVALID_STATE_TRANSITION
+    );
+    if wants_details && has_cause {
         refused.details = details().unwrap_or_default();
     }
     refused

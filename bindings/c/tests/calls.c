@@ -138,7 +138,7 @@ static const struct step on_space[] = {
     {LAST, {0x10, 0x100}, GETS(0x1f00, 0x1f0f)},
     {EXACT, {0x10, 1, 0x1801}, GETS(0x1801, 0x1810)},
     {IS_ALLOCATED, {0x1000, 0x10ff}, GETS_NUMBER(true)},
-    {EXACT, {0x100, 0x100, 0x1000}, TELLS(DVS_INVALID_STATE_TRANSITION, 0x1000, 0x10ff)},
+    {EXACT, {0x100, 0x100, 0x1000}, IS_TAKEN(0x1000, 0x10ff)},
     {FREE, {0x1000, 0x10fe}, NO_PLACE},
     {FREE, {2, 1}, TELLS(DVS_INVALID_RANGE, 2, 1)},
     {IS_ALLOCATED, {0, TOP}, TELLS(DVS_INVALID_RANGE, 0, TOP)},
@@ -163,7 +163,7 @@ static const struct step of_moves[] = {
     {MOVE, {0x1080, 0x117f, 0x1000}, GETS(0x1000, 0x10ff)},
     {MOVE, {0x1000, 0x10ff, 0x1180}, IN_THE_WAY(0x1180, 0x127f, ALLOCATED, 0x1200, 0x12ff)},
     {MOVE, {0x1000, 0x10ff, 0x1280}, IN_THE_WAY(0x1280, 0x137f, ALLOCATED, 0x1200, 0x12ff)},
-    {MOVE, {0x1000, 0x10ff, 0x1200}, TELLS(DVS_INVALID_STATE_TRANSITION, 0x1200, 0x12ff)},
+    {MOVE, {0x1000, 0x10ff, 0x1200}, IS_TAKEN(0x1200, 0x12ff)},
     {MOVE, {0x1000, 0x10ff, 0x1000}, GETS(0x1000, 0x10ff)},
     {MOVE, {0x1000, 0x10ff, 0x1f00}, GETS(0x1f00, 0x1fff)},
     {FREE, {0x1000, 0x10ff}, NO_PLACE},
@@ -180,9 +180,7 @@ static const struct step of_large_ranges[] = {
     {EXACT,
      {0x100000001, 0x800000000, 0x7654328800000000},
      GETS(0x7654328800000000, 0x7654328900000000)},
-    {EXACT,
-     {0x200000000, 1, 0x7654321400000000},
-     TELLS(DVS_INVALID_STATE_TRANSITION, 0x7654321400000000, 0x76543215ffffffff)},
+    {EXACT, {0x200000000, 1, 0x7654321400000000}, IS_TAKEN(0x7654321400000000, 0x76543215ffffffff)},
     {IS_ALLOCATED, {0x7654321400000000, 0x76543215ffffffff}, GETS_NUMBER(true)},
     {FREE, {0x7654328800000000, 0x7654328900000000}, SUCCEEDS},
     {FREE, {0x7654330800000000, 0x7654330a00000000}, SUCCEEDS},
@@ -209,7 +207,7 @@ static const struct step of_largest_ranges[] = {
     {EXACT, {BASE - 1, BASE, BELOW(BASE)}, GETS(BELOW(BASE), TOP - 1)},
     {EXACT, {1, PART(8), PART(12)}, FAILS(DVS_UNALIGNED_ADDRESS)},
     {EXACT, {1, PART(9), PART(9)}, FAILS(DVS_INVALID_ALIGNMENT)},
-    {EXACT, {PART(4), 1, PART(8)}, TELLS(DVS_INVALID_STATE_TRANSITION, PART(8), PART(12) - 1)},
+    {EXACT, {PART(4), 1, PART(8)}, IS_TAKEN(PART(8), PART(12) - 1)},
     {RANGE_AT, {TOP - 1}, GETS(BELOW(BASE), TOP - 1)},
     {RANGE_AT, {TOP}, ENDS(DVS_RESOURCE_NOT_AVAILABLE)},
     {RANGE_AT, {PART(8)}, GETS(PART(8), PART(12) - 1)},
@@ -297,7 +295,7 @@ static const struct step on_devices[] = {
     {DEVICE_CONFLICT, {0}, ENDS(DVS_INVALID_POLICY)},
     {RESERVE_FIRST, {0x100, 0x100}, GETS_DEVICE(1, 0x1000, 0x10ff)},
     {RESERVE_LAST, {0x100, 0x100}, GETS_DEVICE(2, 0x1f00, 0x1fff)},
-    {RESERVE_EXACT, {0x100, 1, 0x1000}, TELLS(DVS_INVALID_STATE_TRANSITION, 0x1000, 0x10ff)},
+    {RESERVE_EXACT, {0x100, 1, 0x1000}, IS_TAKEN(0x1000, 0x10ff)},
     {RESERVE_EXACT, {0x100, 1, 0x1ef0}, IN_THE_WAY(0x1ef0, 0x1fef, ALLOCATED, 0x1f00, 0x1fff)},
     {RESERVE_EXACT, {1, 1, 0x1801}, GETS_DEVICE(3, 0x1801, 0x1801)},
     /* No id is free. */
@@ -452,8 +450,8 @@ static void reserve_many_devices(uint32_t first) {
 
 /* Reserves devices with given ids, moves one, and reads copies of the allocators. */
 static void reserve_given_ids(void) {
-    static const dvs_request one = {8, 8, 0, DVS_FIRST, NULL}, held = {8, 1, 4, DVS_EXACT, NULL},
-                             last = {16, 16, 0, DVS_LAST, NULL};
+    static const dvs_request one = {8, 8, 0, DVS_FIRST, 0, 0}, held = {8, 1, 4, DVS_EXACT, 0, 0},
+                             last = {16, 16, 0, DVS_LAST, 0, 0};
     dvs_device_manager *manager;
     dvs_address_allocator *space;
     dvs_id_allocator *ids;
@@ -506,7 +504,7 @@ static void reserve_given_ids(void) {
 static void *objects[GROUPS];
 
 static void make_objects(void) {
-    static const dvs_request lowest = {1, 1, 0, DVS_FIRST, NULL};
+    static const dvs_request lowest = {1, 1, 0, DVS_FIRST, 0, 0};
     dvs_device device;
     int i;
 
@@ -610,7 +608,7 @@ static dvs_status status_of_query(int call) {
 
 /* Checks that calls with nothing to do are refused in a visit, and calls for an absurd number. */
 static void do_nothing(void *object) {
-    static const dvs_request to_itself = {1, 1, 0, DVS_EXACT, NULL};
+    static const dvs_request to_itself = {1, 1, 0, DVS_EXACT, 0, 0};
     static const uint64_t in_place[4] = {0, 0, 0, 0};
     static const size_t counts[] = {0, SIZE_MAX};
     dvs_address_allocator *space = (dvs_address_allocator *)object;
@@ -758,7 +756,7 @@ static clock_t time_refused(int call, void *object) {
 
     for (i = 1; i < TRIES; i++) {
         const uint64_t numbers[] = {2, 2, 4 * i, 0};
-        const dvs_request request = {2, 2, 4 * i, DVS_EXACT, NULL};
+        const dvs_request request = {2, 2, 4 * i, DVS_EXACT, 0, 0};
         const dvs_request requests[] = {request, request};
 
         given.request = requests;
@@ -898,7 +896,7 @@ static clock_t time_quick(const struct quick *row, void *object, uint64_t count)
 
     for (i = 0; i < PLACES; i++) {
         const uint64_t nth = count / 4 + 1 + i * 7919 % (count / 2 - 2), at = FAR + 4 * nth;
-        const dvs_request request = {2, 2, at + 2, DVS_EXACT, NULL};
+        const dvs_request request = {2, 2, at + 2, DVS_EXACT, 0, 0};
         uint64_t numbers[4] = {0, 0, 0, 0};
 
         given.request = &request;

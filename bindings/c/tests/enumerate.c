@@ -53,7 +53,8 @@ static dvs_request request_of(uint64_t size, uint64_t alignment, uint32_t policy
     request.alignment = alignment;
     request.policy = policy;
     request.start = start;
-    request.window = NULL;
+    request.low = 0;
+    request.high = 0;
     return request;
 }
 
@@ -214,7 +215,7 @@ static void refuse_ids(void) {
 /* Counts that no array has. */
 static void refuse_counts(void) {
     static const uint32_t ids[] = {9, 9};
-    static const dvs_request request = {0, 0, 0, 9, NULL};
+    static const dvs_request request = {0, 0, 0, 9, 0, 0};
     const size_t counts[] = {SIZE_MAX, SIZE_MAX / 2 + 1, SIZE_MAX / 4 + 3, SIZE_MAX / 32 + 1};
     dvs_range held = {5, 4};
     dvs_address_allocator *space = two_held(), *made;
@@ -466,21 +467,21 @@ static void refuse_bars(dvs_address_allocator *space, const dvs_request *bars, d
 /* Allocates two BARs, each in a separate window. */
 static void allocate_in_windows(void) {
     dvs_address_allocator *space = two_held();
-    dvs_range low = {0, 0x1fff}, high = {0x2000, UINT64_MAX}, ranges[2];
+    dvs_range ranges[2];
     dvs_request bars[2];
     size_t failed = MOST;
 
     bars[0] = request_of(0x800, 0x100, DVS_LAST, 0);
-    bars[0].window = &low;
+    bars[0].high = 0x1fff;
     bars[1] = request_of(0x1001, 1, DVS_FIRST, 0);
-    bars[1].window = &high;
+    bars[1].low = 0x2000;
     refuse_bars(space, bars, DVS_RESOURCE_NOT_AVAILABLE, range_of(0, 0));
     bars[1] = request_of(0x1000, 1, DVS_EXACT, 0x1000);
-    bars[1].window = &low;
+    bars[1].high = 0x1fff;
     refuse_bars(space, bars, DVS_INVALID_STATE_TRANSITION, range_of(0x1000, 0x1fff));
-    low.end = 0xdff;
+    bars[0].high = 0xdff;
     bars[1] = request_of(0x1000, 1, DVS_FIRST, 0);
-    bars[1].window = &high;
+    bars[1].low = 0x2000;
     CHECK(dvs_address_allocator_allocate_all(space, bars, 2, ranges, &failed, NULL) == DVS_OK);
     CHECK(failed == 2 && is_range(ranges[0], 0x600, 0xdff) && is_range(ranges[1], 0x2000, 0x2fff));
     dvs_address_allocator_destroy(space);
@@ -500,31 +501,37 @@ static bool is_invalid(dvs_status status) {
 
 /* Allocates lists with two faults. The first one that is invalid is returned, or else the first. */
 static void allocate_none(void) {
-    static const dvs_range backwards = {5, 4}, outside = {0x4000, UINT64_MAX};
     static const struct row {
         dvs_request request;
         dvs_status status;
         uint32_t cause;
         dvs_range other;
     } rows[] = {
-        {{0, 1, 0, DVS_FIRST, NULL}, DVS_INVALID_SIZE, 0, {0, 0}},
-        {{1, 3, 0, DVS_FIRST, NULL}, DVS_INVALID_ALIGNMENT, 0, {0, 0}},
-        {{1, 2, 1, DVS_EXACT, NULL}, DVS_UNALIGNED_ADDRESS, 0, {0, 0}},
-        {{0x1000, 1, 0x1000, DVS_EXACT, NULL}, DVS_INVALID_STATE_TRANSITION, 0, {0, 0}},
-        {{0x1000, 1, 0, DVS_LAST, NULL}, DVS_RESOURCE_NOT_AVAILABLE, 0, {0, 0}},
-        {{1, 1, 0, DVS_FIRST, &outside}, NO_PLACE(OUTSIDE_SPACE), {0, 0x3fff}},
+        {{0, 1, 0, DVS_FIRST, 0, 0}, DVS_INVALID_SIZE, 0, {0, 0}},
+        {{1, 3, 0, DVS_FIRST, 0, 0}, DVS_INVALID_ALIGNMENT, 0, {0, 0}},
+        {{1, 2, 1, DVS_EXACT, 0, 0}, DVS_UNALIGNED_ADDRESS, 0, {0, 0}},
+        {{0x1000, 1, 0x1000, DVS_EXACT, 0, 0},
+         DVS_INVALID_STATE_TRANSITION,
+         DVS_CAUSE_ALLOCATED,
+         {0x1000, 0x1fff}},
+        {{0x1000, 1, 0, DVS_EXACT, 0, 0},
+         DVS_INVALID_STATE_TRANSITION,
+         DVS_CAUSE_EARLIER_REQUEST,
+         {0, 0}},
+        {{0x1000, 1, 0, DVS_LAST, 0, 0}, DVS_RESOURCE_NOT_AVAILABLE, 0, {0, 0}},
+        {{1, 1, 0, DVS_FIRST, 0x4000, 0}, NO_PLACE(OUTSIDE_SPACE), {0, 0x3fff}},
         /* The first two requests have 0 to 0xfff and 0x2000 to 0x27ff. */
         /* divsharun.h: "An address is in the range of an earlier request of the same call. `other`
          * is 0 to 0." */
-        {{1, 1, 0xfff, DVS_EXACT, NULL}, NO_PLACE(EARLIER_REQUEST), {0, 0}},
-        {{0x900, 1, 0x2700, DVS_EXACT, NULL}, NO_PLACE(EARLIER_REQUEST), {0, 0}},
-        {{0x2000, 1, 0x800, DVS_EXACT, NULL}, NO_PLACE(ALLOCATED), {0x1000, 0x1fff}},
-        {{0x4000, 1, 1, DVS_EXACT, NULL}, NO_PLACE(OUTSIDE_SPACE), {0, 0x3fff}},
-        {{1, 1, 0, DVS_EXACT, &outside}, NO_PLACE(OUTSIDE_WINDOW), {0x4000, UINT64_MAX}},
-        {{1, 1, UINT64_MAX, DVS_EXACT, NULL}, DVS_OVERFLOW, 0, {0, 0}},
-        {{1, 1, 0, DVS_EXACT + 1, NULL}, DVS_INVALID_POLICY, 0, {0, 0}},
-        {{1, 1, 0, UINT32_MAX, &backwards}, DVS_INVALID_POLICY, 0, {0, 0}},
-        {{1, 1, 0, DVS_LAST, &backwards}, DVS_INVALID_RANGE, 0, {0, 0}},
+        {{1, 1, 0xfff, DVS_EXACT, 0, 0}, NO_PLACE(EARLIER_REQUEST), {0, 0}},
+        {{0x900, 1, 0x2700, DVS_EXACT, 0, 0}, NO_PLACE(EARLIER_REQUEST), {0, 0}},
+        {{0x2000, 1, 0x800, DVS_EXACT, 0, 0}, NO_PLACE(ALLOCATED), {0x1000, 0x1fff}},
+        {{0x4000, 1, 1, DVS_EXACT, 0, 0}, NO_PLACE(OUTSIDE_SPACE), {0, 0x3fff}},
+        {{1, 1, 0, DVS_EXACT, 0x4000, 0}, NO_PLACE(OUTSIDE_WINDOW), {0x4000, UINT64_MAX}},
+        {{1, 1, UINT64_MAX, DVS_EXACT, 0, 0}, DVS_OVERFLOW, 0, {0, 0}},
+        {{1, 1, 0, DVS_EXACT + 1, 0, 0}, DVS_INVALID_POLICY, 0, {0, 0}},
+        {{1, 1, 0, UINT32_MAX, 5, 4}, DVS_INVALID_POLICY, 0, {0, 0}},
+        {{1, 1, 0, DVS_LAST, 5, 4}, DVS_INVALID_RANGE, 0, {0, 0}},
     };
     dvs_address_allocator *space = two_held();
     dvs_address_allocator *before = two_held();

@@ -54,8 +54,7 @@ static inline bool copies_part(int call) {
 /* Ranges, requests and ids that are invalid. The second id is also below the first. An array has
  * two members. */
 static const dvs_range backwards[] = {{2, 1}, {2, 1}};
-static const dvs_request worst[] = {{0, 0, 1, DVS_EXACT + 1, backwards},
-                                    {0, 0, 1, DVS_EXACT + 1, backwards}};
+static const dvs_request worst[] = {{0, 0, 1, DVS_EXACT + 1, 2, 1}, {0, 0, 1, DVS_EXACT + 1, 2, 1}};
 static const uint32_t falling_ids[] = {9, 3};
 
 /* The arguments that are not numbers. */

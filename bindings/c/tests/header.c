@@ -100,7 +100,7 @@ static int free_value(void *context, dvs_valued_range found) {
 }
 
 static void keep_pointers(void) {
-    const dvs_request request = {8, 8, 0, DVS_FIRST, NULL};
+    const dvs_request request = {8, 8, 0, DVS_FIRST, 0, 0};
     dvs_range_map *map;
     dvs_range range;
     dvs_status status;

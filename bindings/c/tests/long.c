@@ -63,9 +63,9 @@ static struct outcome blocked(const struct model *model, const dvs_request *requ
 
     found.range = range_of(request->start, request->start + request->size - 1);
     if (model->sizes[request->start - BASE] == request->size && window.start <= request->start &&
-        request->start <= window.end) {
+        request->start <= window.end)
         found.status = DVS_INVALID_STATE_TRANSITION;
-    } else if (found.range.end > BASE + WIDTH - 1) {
+    if (found.range.end > BASE + WIDTH - 1) {
         found.cause = DVS_CAUSE_OUTSIDE_SPACE;
         found.other = range_of(BASE, BASE + WIDTH - 1);
     } else if (found.range.start < window.start || window.end < found.range.end) {
@@ -82,8 +82,7 @@ static struct outcome blocked(const struct model *model, const dvs_request *requ
 
 /* Returns the outcome of a request, by a search of all addresses from the last one. */
 static struct outcome searched(const struct model *model, const dvs_request *request) {
-    static const dvs_range everywhere = {0, TOP};
-    const dvs_range window = request->window == NULL ? everywhere : *request->window;
+    const dvs_range window = range_of(request->low, request->high == 0 ? TOP : request->high);
     struct outcome found = NO_PLACE;
     uint64_t start, run = 0;
 
@@ -107,16 +106,24 @@ static struct outcome searched(const struct model *model, const dvs_request *req
     return found;
 }
 
-static dvs_request random_request(dvs_range *window) {
-    dvs_request request = {0, 0, 0, 0, NULL};
+static dvs_range random_window(void) {
+    const uint64_t start = BASE - 8 + drawn(WIDTH + 16);
+
+    return range_of(start, start + drawn(WIDTH));
+}
+
+static dvs_request random_request(void) {
+    const dvs_range window = random_window();
+    dvs_request request = {0, 0, 0, 0, 0, 0};
 
     request.size = 1 + drawn(drawn(3) == 0 ? 40 : 4);
     request.alignment = (uint64_t)1 << drawn(3);
     request.start = BASE + (drawn(WIDTH) & ~(request.alignment - 1));
     request.policy = (uint32_t)drawn(3);
-    window->start = BASE - 8 + drawn(WIDTH + 16);
-    window->end = window->start + drawn(WIDTH);
-    request.window = drawn(3) == 0 ? window : NULL;
+    if (drawn(3) == 0) {
+        request.low = drawn(4) == 0 ? 0 : window.start;
+        request.high = drawn(4) == 0 ? 0 : window.end;
+    }
     return request;
 }
 
@@ -137,7 +144,7 @@ static bool is_held(const struct model *model, dvs_range range) {
  * are calls of every_call.h. */
 static dvs_status allocate(int first, int whole, void *object, const dvs_request *request) {
     const uint64_t numbers[] = {request->size, request->alignment, request->start, 0};
-    const bool is_whole = request->window != NULL || drawn(2) == 0;
+    const bool is_whole = request->low != 0 || request->high != 0 || drawn(2) == 0;
 
     given.request = request;
     return make_call(is_whole ? whole : first + (int)request->policy, object, numbers);
@@ -147,13 +154,13 @@ static dvs_status allocate(int first, int whole, void *object, const dvs_request
 
 static void allocate_several(dvs_address_allocator *space, struct model *model) {
     struct model changed = *model;
-    dvs_range windows[16], ranges[16];
+    dvs_range ranges[16];
     dvs_request requests[16];
     dvs_status expected = DVS_OK;
     size_t count = drawn(17), failed = 99, i, j;
 
     for (i = 0; i < count; i++)
-        requests[i] = random_request(&windows[i]);
+        requests[i] = random_request();
     for (i = 0; i < count && expected == DVS_OK; i++) {
         const struct outcome outcome = searched(&changed, &requests[i]);
 
@@ -178,7 +185,7 @@ static void move(dvs_address_allocator *space, struct model *model, dvs_request 
     struct outcome outcome = NO_PLACE;
 
     if (is_plain) {
-        const dvs_request plain = {size, 1, request->start, DVS_EXACT, NULL};
+        const dvs_request plain = {size, 1, request->start, DVS_EXACT, 0, 0};
 
         *request = plain;
     }
@@ -241,9 +248,9 @@ static uint64_t check_met(dvs_status visited, const struct model *model, bool ar
 }
 
 static void query_space(const dvs_address_allocator *space, const struct model *model) {
-    const dvs_range range = random_range(model);
-    dvs_range window, at;
-    dvs_request request = random_request(&window);
+    const dvs_range range = random_range(model), window = random_window();
+    const dvs_request request = random_request();
+    dvs_range at;
     const struct outcome outcome = searched(model, &request);
     const dvs_refusal none = {{0, 0}, {0, 0}, 0, 0, 0};
     dvs_refusal conflict;
@@ -256,7 +263,7 @@ static void query_space(const dvs_address_allocator *space, const struct model *
     CHECK(dvs_range_conflict(space, &request, &conflict) == DVS_OK);
     if (outcome.status == DVS_OK)
         CHECK(memcmp(&conflict, &none, sizeof none) == 0);
-    else if (outcome.status == DVS_RESOURCE_NOT_AVAILABLE)
+    else
         CHECK(conflict.cause == outcome.cause && conflict.other.start == outcome.other.start);
     check_met(dvs_range_visit_in(space, window, meet, NULL, NULL), model, false, window.start,
               window.end, false);
@@ -267,8 +274,7 @@ static void query_space(const dvs_address_allocator *space, const struct model *
 static void change_space(void *object, struct model *model, bool is_freed) {
     dvs_address_allocator *space = (dvs_address_allocator *)object;
     const dvs_range range = random_range(model);
-    dvs_range window;
-    dvs_request request = random_request(&window);
+    dvs_request request = random_request();
     const uint64_t kind = drawn(8);
     struct outcome outcome;
 
@@ -429,8 +435,7 @@ static void compare_ids(const void *object, const struct model *model) {
 static void change_devices(void *object, struct model *model, bool is_freed) {
     dvs_device_manager *manager = (dvs_device_manager *)object;
     const uint32_t id = random_id(), lowest = lowest_id(model, 0, TOP_ID);
-    dvs_range window;
-    const dvs_request request = random_request(&window);
+    const dvs_request request = random_request();
     struct outcome outcome = NO_PLACE;
 
     if (is_freed) {

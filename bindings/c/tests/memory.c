@@ -31,7 +31,7 @@ static void hold(uint64_t start) {
 
 /* Allocates numbers with each number of digits, and some free addresses and ids between them. */
 static void fill(void) {
-    static const dvs_request lowest = {1, 1, 0, DVS_FIRST, NULL};
+    static const dvs_request lowest = {1, 1, 0, DVS_FIRST, 0, 0};
     uint64_t power = 10;
     dvs_device device;
     uint32_t id;
@@ -152,9 +152,9 @@ static const struct row rows[] = {
 
 /* Sets the arguments that are not numbers. */
 static void give(int group) {
-    static const dvs_range window = {490, 510}, held[] = {{4, 7}, {9, 9}};
-    static const dvs_request requests[] = {{3, 1, 0, DVS_LAST, &window},
-                                           {3, 1, 500, DVS_EXACT, NULL}};
+    static const dvs_range held[] = {{4, 7}, {9, 9}};
+    static const dvs_request requests[] = {{3, 1, 0, DVS_LAST, 490, 510},
+                                           {3, 1, 500, DVS_EXACT, 0, 0}};
     static const uint32_t held_ids[] = {4, 9};
 
     given = usual;
@@ -265,7 +265,7 @@ static const struct {
 };
 
 static void call_without_memory(int call, int group, const uint64_t *numbers, dvs_status status) {
-    const dvs_request one = {numbers[0], numbers[1], numbers[2], (uint32_t)numbers[3], NULL};
+    const dvs_request one = {numbers[0], numbers[1], numbers[2], (uint32_t)numbers[3], 0, 0};
     const dvs_request requests[] = {one, one};
     dvs_status got;
 
@@ -392,7 +392,7 @@ static void measure_arrays(void) {
     static dvs_range ranges[RANGES];
     static dvs_request requests[RANGES];
     static uint32_t several[RANGES];
-    const dvs_request request = {1, 1, 0, DVS_FIRST, NULL};
+    const dvs_request request = {1, 1, 0, DVS_FIRST, 0, 0};
     const size_t size = sizeof ranges[0];
     dvs_address_allocator *space, *other;
     dvs_id_allocator *ids;

@@ -103,6 +103,12 @@ struct outcome {
             from, to                                                                               \
         }                                                                                          \
     }
+#define IS_TAKEN(start, end)                                                                       \
+    {                                                                                              \
+        DVS_INVALID_STATE_TRANSITION, {start, end}, 0, DVS_CAUSE_ALLOCATED, {                      \
+            start, end                                                                             \
+        }                                                                                          \
+    }
 
 /* divsharun.h: "An error leaves the results and the object unchanged."
  * divsharun.h: "An error writes all members, with 0 or NULL for those without a meaning. DVS_OK

@@ -66,7 +66,7 @@ static void allocate() {
     dvs::request place = dvs::request::last(0x80, 0x80).within({0, 0x1fff});
     CHECK(!space.move_range(range, place, range) && is_range(range, 0x1e80, 0x1eff));
     CHECK(space.move_range({0x1000, 0x10ff}, place, range) == DVS_RESOURCE_NOT_AVAILABLE);
-    CHECK(!space.move_range(range, {{0x100, 0x100, 0x1000, DVS_EXACT, nullptr}}, range));
+    CHECK(!space.move_range(range, {{0x100, 0x100, 0x1000, DVS_EXACT, 0, 0}}, range));
     CHECK(is_range(range, 0x1000, 0x10ff));
     std::size_t failed = 9;
     using dvs::request;
@@ -94,16 +94,17 @@ static void allocate_in_windows() {
     CHECK(!space.allocate(request::first(0x10, 1).within({0x2800, 0x2fff}).within({0x1000, 0x17ff}),
                           range));
     CHECK(is_range(range, 0x1010, 0x101f));
-    CHECK(!space.allocate({{0x20, 0x20, 0, DVS_LAST, &low}}, range));
+    CHECK(!space.allocate({{0x20, 0x20, 0, DVS_LAST, low.start, low.end}}, range));
     CHECK(is_range(range, 0x1fc0, 0x1fdf));
     CHECK(space.allocate(request::exact(0x20, 1, 0x1fc0).within({0x1fc0, 0x1fc0}), range,
                          &refusal) == dvs::error(DVS_INVALID_STATE_TRANSITION));
     CHECK(is_range(refusal.range, 0x1fc0, 0x1fdf) && is_range(range, 0x1fc0, 0x1fdf));
+    CHECK(dvs::cause_of(refusal) == dvs::cause::outside_window && refusal.other.end == 0x1fc0);
     CHECK(space.allocate(request::first(0x10, 1).within({9, 8}), range, &refusal) ==
           dvs::error(DVS_INVALID_RANGE));
     CHECK(is_range(refusal.range, 9, 8) && is_range(refusal.other, 0, 0) && refusal.size == 0 &&
           refusal.id == 0);
-    CHECK(space.allocate({{1, 1, 0, 3, nullptr}}, range) == dvs::error(DVS_INVALID_POLICY));
+    CHECK(space.allocate({{1, 1, 0, 3, 0, 0}}, range) == dvs::error(DVS_INVALID_POLICY));
     CHECK(dvs::cause_of(refusal) == dvs::cause::none);
     CHECK(space.allocate(request::exact(2, 1, 0x1fdf), range, &refusal) ==
           DVS_RESOURCE_NOT_AVAILABLE);
@@ -119,9 +120,9 @@ static void allocate_in_windows() {
           is_range(refusal.other, 0x1000, 0x1fff));
     CHECK(!space.conflict(request::exact(2, 1, 0x1fff).within(low), conflict));
     CHECK(memcmp(&conflict, &refusal, sizeof conflict) == 0);
-    CHECK(!space.conflict({{2, 1, 0x1102, DVS_EXACT, &low}}, conflict));
+    CHECK(!space.conflict({{2, 1, 0x1102, DVS_EXACT, low.start, low.end}}, conflict));
     CHECK(dvs::cause_of(conflict) == dvs::cause::none && is_range(conflict.range, 0, 0));
-    CHECK(space.conflict({{2, 1, 0, 3, nullptr}}, conflict) == DVS_INVALID_POLICY);
+    CHECK(space.conflict({{2, 1, 0, 3, 0, 0}}, conflict) == DVS_INVALID_POLICY);
     CHECK(space.move_range(range, request::exact(2, 1, 0xfff).within(low), range, &refusal) ==
           DVS_RESOURCE_NOT_AVAILABLE);
     CHECK(dvs::cause_of(refusal) == dvs::cause::outside_space);
@@ -153,29 +154,21 @@ static void allocate_all_in_windows() {
     CHECK(is_range(ranges[0], 30, 31) && is_range(ranges[1], 46, 47));
 }
 
-template <typename Request, typename = decltype(std::declval<Request>().get())>
-static std::true_type has_get(int);
-template <typename> static std::false_type has_get(...);
-static_assert(!decltype(has_get<dvs::request>(0))::value &&
-                  !std::is_convertible<dvs::request, dvs_request>::value,
-              "a request of C would point to a window that is destroyed");
+static_assert(std::is_trivially_copyable<dvs::request>::value, "a request refers to nothing");
 
-/* Checks that a request copies its window, so that it refers to no temporary and no other window.
- */
+/* Checks that each request has its own window. */
 static void copy_windows() {
     using dvs::request;
     dvs::address_allocator space;
     std::vector<request> bars;
     std::vector<dvs_range> ranges;
-    dvs_range window, range;
+    dvs_range range;
 
     CHECK(!space.make(0, 0x100000));
     for (uint64_t i = 1; i < 4; i++)
         bars.push_back(request::first(0x1000, 0x1000).within({0x10000 * i, 0xfffff}));
-    for (uint64_t i = 4; i < 6; i++) {
-        window = range_of(0x10000 * i, 0xfffff);
-        bars.push_back(dvs_request{0x1000, 0x1000, 0, DVS_FIRST, &window});
-    }
+    for (uint64_t i = 4; i < 6; i++)
+        bars.push_back(dvs_request{0x1000, 0x1000, 0, DVS_FIRST, 0x10000 * i, 0});
     CHECK(!space.allocate_all(bars, ranges) && ranges.size() == 5);
     for (uint64_t i = 0; i < 5; i++)
         CHECK(is_range(ranges[i], 0x10000 * (i + 1), 0x10000 * (i + 1) + 0xfff));
@@ -198,14 +191,14 @@ static void reserve_in_windows() {
     CHECK(refusal.size == 0 && device.id == 5);
     CHECK(devices.reserve(request::exact(8, 8, 16).within({16, 16}), device, &refusal) ==
           dvs::error(DVS_INVALID_STATE_TRANSITION));
-    CHECK(is_range(refusal.range, 16, 23));
+    CHECK(is_range(refusal.range, 16, 23) && is_range(refusal.other, 16, 16));
     CHECK(!devices.conflict(request::exact(8, 8, 16).within({0, 30}), refusal));
     CHECK(dvs::cause_of(refusal) == dvs::cause::allocated && is_range(refusal.other, 16, 23));
     CHECK(!devices.conflict(request::exact(8, 8, 16).within({0, 20}), refusal));
     CHECK(dvs::cause_of(refusal) == dvs::cause::outside_window && refusal.other.end == 20);
-    CHECK(!devices.conflict({{8, 8, 64, DVS_EXACT, nullptr}}, refusal));
+    CHECK(!devices.conflict({{8, 8, 64, DVS_EXACT, 0, 0}}, refusal));
     CHECK(dvs::cause_of(refusal) == dvs::cause::outside_space && is_range(refusal.other, 0, 63));
-    CHECK(!devices.reserve({{8, 8, 0, DVS_FIRST, nullptr}}, device) && device.id == 6);
+    CHECK(!devices.reserve({{8, 8, 0, DVS_FIRST, 0, 0}}, device) && device.id == 6);
     CHECK(list(devices, &dvs::device_manager::devices).size() == 2 && is_range(device.range, 0, 7));
 
     dvs::address_allocator space;
@@ -746,7 +739,7 @@ static void tell_details() {
     CHECK(!space.allocate(request::first(16, 64), range) && is_range(range, 128, 143));
     CHECK(!space.allocate(request::last(16, 64), range) && is_range(range, 0xf80, 0xf8f));
     CHECK(space.allocate(request::exact(16, 64, 65), range) == DVS_UNALIGNED_ADDRESS);
-    CHECK(space.allocate({{8, 1, 130, DVS_EXACT, nullptr}}, range, &refusal) &&
+    CHECK(space.allocate({{8, 1, 130, DVS_EXACT, 0, 0}}, range, &refusal) &&
           tells(refusal, 130, 137));
     CHECK(space.allocate_all(twice, ranges, nullptr, &refusal) && ranges.empty());
     CHECK(tells(refusal, 99, 99));
@@ -754,7 +747,7 @@ static void tell_details() {
     CHECK(!devices.reserve_last(16, 64, device) && is_range(device.range, 0xfc0, 0xfcf));
     CHECK(devices.reserve_exact(16, 64, 65, device) == DVS_UNALIGNED_ADDRESS);
     CHECK(devices.reserve_exact(16, 64, 64, device, &refusal) && tells(refusal, 64, 79));
-    CHECK(devices.reserve({{8, 1, 70, DVS_EXACT, nullptr}}, device, &refusal) &&
+    CHECK(devices.reserve({{8, 1, 70, DVS_EXACT, 0, 0}}, device, &refusal) &&
           tells(refusal, 70, 77));
     tell_more_details();
     check_reader(&dvs::address_allocator::read);

@@ -31,6 +31,12 @@ struct row {
 
 /* A range that is not available. The test finds the requested range and the one in the way. */
 #define BLOCKED(cause) IN_THE_WAY(0, 0, cause, 0, 0)
+#define TAKEN_PAST_WINDOW                                                                          \
+    {                                                                                              \
+        DVS_INVALID_STATE_TRANSITION, {0, 0}, 0, DVS_CAUSE_OUTSIDE_WINDOW, {                       \
+            0, 0                                                                                   \
+        }                                                                                          \
+    }
 
 /* In the space from 0x1000 to 0x1fff, with the ranges of `held` allocated. */
 static const dvs_range held[] = {{0x1400, 0x14ff}, {0x1800, 0x18ff}};
@@ -88,7 +94,7 @@ static const struct row at_ends[] = {
     {DVS_EXACT, 1, 1, 0x1000, {0, 0xfff}, BLOCKED(OUTSIDE_WINDOW)},
     {DVS_EXACT, 1, 1, 0xf00, {0, 0xfff}, BLOCKED(OUTSIDE_SPACE)},
     {DVS_EXACT, 1, 1, 0x2000, {0x2000, TOP}, BLOCKED(OUTSIDE_SPACE)},
-    {DVS_FIRST, 1, 1, 0, {0, 0}, BLOCKED(OUTSIDE_SPACE)},
+    {DVS_FIRST, 1, 1, 0, {0, 1}, BLOCKED(OUTSIDE_SPACE)},
     {DVS_LAST, 1, 1, 0, {TOP, TOP}, BLOCKED(OUTSIDE_SPACE)},
     /* The space or a part of it, and addresses outside it. */
     {DVS_FIRST, 0x10, 1, 0, {0, 0x2fff}, GETS(0x1000, 0x100f)},
@@ -102,7 +108,7 @@ static const struct row at_ends[] = {
     {DVS_FIRST, 0x10, 1, 0, {0, TOP}, GETS(0x1000, 0x100f)},
     {DVS_LAST, 0x10, 1, 0, {0, TOP}, GETS(0x1ff0, 0x1fff)},
     {DVS_EXACT, 0x10, 1, 0x1500, {0, TOP}, GETS(0x1500, 0x150f)},
-    {DVS_EXACT, 0x100, 1, 0x1400, {0, TOP}, TELLS(DVS_INVALID_STATE_TRANSITION, 0x1400, 0x14ff)},
+    {DVS_EXACT, 0x100, 1, 0x1400, {0, TOP}, IS_TAKEN(0x1400, 0x14ff)},
     /* divsharun.h: "For a request at alignment 1 without a window, DVS_FIRST and DVS_LAST return
      * DVS_RESOURCE_NOT_AVAILABLE if and only if its size is more than this length." */
     {DVS_FIRST, 0x701, 1, 0, {0, TOP}, NO_PLACE},
@@ -115,21 +121,12 @@ static const struct row at_ends[] = {
  * allocated, starts in the window and ends past it." */
 static const struct row refused[] = {
     {DVS_FIRST, 1, 1, 0, {9, 8}, TELLS(DVS_INVALID_RANGE, 9, 8)},
-    {DVS_LAST, 1, 1, 0, {TOP, 0}, TELLS(DVS_INVALID_RANGE, TOP, 0)},
+    {DVS_LAST, 1, 1, 0, {TOP, 1}, TELLS(DVS_INVALID_RANGE, TOP, 1)},
     {DVS_EXACT, 1, 1, 0x1500, {0x1501, 0x1500}, TELLS(DVS_INVALID_RANGE, 0x1501, 0x1500)},
-    {DVS_EXACT,
-     0x100,
-     1,
-     0x1400,
-     {0x1400, 0x14fe},
-     TELLS(DVS_INVALID_STATE_TRANSITION, 0x1400, 0x14ff)},
-    {DVS_EXACT,
-     0x100,
-     1,
-     0x1400,
-     {0x1400, 0x1400},
-     TELLS(DVS_INVALID_STATE_TRANSITION, 0x1400, 0x14ff)},
+    {DVS_EXACT, 0x100, 1, 0x1400, {0x1400, 0x14fe}, TAKEN_PAST_WINDOW},
+    {DVS_EXACT, 0x100, 1, 0x1400, {0x1400, 0x1400}, TAKEN_PAST_WINDOW},
     {DVS_EXACT, 0x100, 1, 0x1400, {0x1401, 0x14ff}, BLOCKED(OUTSIDE_WINDOW)},
+    {DVS_EXACT, 0x100, 1, 0x1400, {0x1401, TOP}, BLOCKED(OUTSIDE_WINDOW)},
     {DVS_EXACT, 0x80, 1, 0x1400, {0x1400, 0x14fe}, BLOCKED(ALLOCATED)},
     {DVS_EXACT + 1, 0, 3, 0, {9, 8}, FAILS(DVS_INVALID_POLICY)},
     {UINT32_MAX, 1, 1, 0, {0x1500, 0x17ff}, FAILS(DVS_INVALID_POLICY)},
@@ -146,15 +143,18 @@ static const struct row refused[] = {
     {DVS_EXACT, TOP, 1, 0x1400, {0x1400, 0x1401}, FAILS(DVS_OVERFLOW)},
 };
 
-/* divsharun.h: "A `start` of 0 is no lower limit. An `end` of UINT64_MAX is no upper limit. With
- * neither limit there is no window, as with NULL." */
+/* divsharun.h: "A `low` of 0 is no lower limit. A `high` of 0 or UINT64_MAX is no upper limit. With
+ * neither limit there is no window. Use DVS_EXACT for the address 0 alone." */
 
 /* In the space from 0 to 0xff. */
 static const struct row at_zero[] = {
     {DVS_FIRST, 1, 1, 0, {0, 0}, GETS(0, 0)},
-    {DVS_LAST, 1, 1, 0, {0, 0}, GETS(0, 0)},
+    {DVS_LAST, 1, 1, 0, {0, 0}, GETS(0xff, 0xff)},
     {DVS_EXACT, 1, 1, 0, {0, 0}, GETS(0, 0)},
-    {DVS_EXACT, 2, 1, 0, {0, 0}, BLOCKED(OUTSIDE_WINDOW)},
+    {DVS_EXACT, 2, 1, 0, {0, 0}, GETS(0, 1)},
+    {DVS_LAST, 1, 1, 0, {0, 1}, GETS(1, 1)},
+    {DVS_EXACT, 2, 1, 0, {0, 1}, GETS(0, 1)},
+    {DVS_EXACT, 3, 1, 0, {0, 1}, BLOCKED(OUTSIDE_WINDOW)},
     {DVS_EXACT, 1, 1, 0, {1, TOP}, BLOCKED(OUTSIDE_WINDOW)},
     {DVS_FIRST, 1, 1, 0, {1, TOP}, GETS(1, 1)},
     {DVS_FIRST, 0x100, 0x100, 0, {0, 0xff}, GETS(0, 0xff)},
@@ -289,6 +289,11 @@ static const struct {
 /* divsharun.h: "With a cause: the requested range, or 0 to 0 if it has no given start or would end
  * past UINT64_MAX." */
 
+/* Returns the window of a request with these limits. */
+static dvs_range window_of(uint64_t low, uint64_t high) {
+    return range_of(low, high == 0 ? TOP : high);
+}
+
 /* Returns the outcome of a row, with the requested range and the one that the cause names. */
 static struct outcome outcome_of(const struct row *row, dvs_range space) {
     struct outcome all = row->outcome;
@@ -304,7 +309,7 @@ static struct outcome outcome_of(const struct row *row, dvs_range space) {
     if (all.cause == DVS_CAUSE_OUTSIDE_SPACE)
         all.other = space;
     if (all.cause == DVS_CAUSE_OUTSIDE_WINDOW)
-        all.other = row->window;
+        all.other = window_of(row->window.start, row->window.end);
     return all;
 }
 
@@ -312,8 +317,6 @@ static struct outcome outcome_of(const struct row *row, dvs_range space) {
  * no space. */
 static void check_conflict(const dvs_request *request, const struct outcome *outcome, dvs_range all,
                            const dvs_address_allocator *space, const dvs_device_manager *manager) {
-    const bool is_past_window =
-        request->window != NULL && request->window->end < outcome->range.end;
     dvs_refusal expected = {outcome->range, outcome->other, 0, 0, outcome->cause};
     dvs_status status = DVS_OK;
 
@@ -328,9 +331,6 @@ static void check_conflict(const dvs_request *request, const struct outcome *out
         }
         break;
     case DVS_INVALID_STATE_TRANSITION:
-        expected.cause = is_past_window ? DVS_CAUSE_OUTSIDE_WINDOW : DVS_CAUSE_ALLOCATED;
-        expected.other = is_past_window ? *request->window : outcome->range;
-        break;
     case DVS_RESOURCE_NOT_AVAILABLE:
         break;
     default:
@@ -403,21 +403,22 @@ static dvs_status reserve_one(void *object, const dvs_request *request) {
 }
 
 static dvs_request request_of(const struct row *row) {
-    const dvs_request request = {row->size, row->alignment, row->start, row->policy, &row->window};
+    const dvs_request request = {row->size,   row->alignment,    row->start,
+                                 row->policy, row->window.start, row->window.end};
 
     return request;
 }
 
-/* Checks a call for a row. A window of all addresses is also NULL. */
+/* Checks a call for a row. The lack of an upper limit is written in two ways. */
 static void check_call(const struct row *row, dvs_range space, request_call *call, void *object) {
     const struct outcome outcome = outcome_of(row, space);
     dvs_request request = request_of(row);
     int i;
 
-    for (i = 0; i <= is_range(row->window, 0, TOP); i++) {
+    for (i = 0; i <= (row->window.end == TOP); i++) {
         prepare();
         CHECK(has_outcome(&outcome, call(object, &request)));
-        request.window = NULL;
+        request.high = 0;
     }
 }
 
@@ -486,7 +487,7 @@ static void move_in_windows(void) {
 /* Checks rows with a manager that has the id `id` only, for the first range of `held`. The ids do
  * not matter for a conflict. */
 static void check_without_ids(uint32_t id, const struct row *rows, size_t count) {
-    const dvs_request taken = {0x10, 1, 0x1400, DVS_EXACT, NULL};
+    const dvs_request taken = {0x10, 1, 0x1400, DVS_EXACT, 0, 0};
     const struct outcome conflict = IN_THE_WAY(0x1400, 0x140f, ALLOCATED, 0x1400, 0x14ff);
     const dvs_range all = range_of(0x1000, 0x1fff);
     dvs_device_manager *manager = manager_with(all, id, id, 1);

@@ -181,6 +181,9 @@ impl DeviceManager {
         /// Reserves like [`reserve_constraint`](Self::reserve_constraint), with the id of another request
         /// instead of the lowest free one.
         ///
+        /// A saved value lists each free id below the highest one that was ever allocated. So it can be too
+        /// long for the memory after a reservation of a high id.
+        ///
         /// # Errors
         ///
         /// An error leaves ids, ranges and devices unchanged. In this order:

@@ -49,6 +49,9 @@ impl DeviceManager {
 
     /// Reserves an id and a range for a new device, each for its request, and returns both.
     ///
+    /// A saved value lists each free id below the highest one that was ever allocated. So it can be too long
+    /// for the memory after a reservation of a high id.
+    ///
     /// # Errors
     ///
     /// An error leaves ids, ranges and devices unchanged, and each error but the last one the same tree. In
