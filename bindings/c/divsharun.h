@@ -536,8 +536,8 @@ dvs_status dvs_range_conflict(const dvs_address_allocator *allocator, const dvs_
  *
  * Errors, in order:
  * - DVS_INVALID_RANGE if `range` is not a valid range.
- * - DVS_RESOURCE_NOT_AVAILABLE if exactly this range is not allocated. A part of
- *   an allocated range cannot be freed.
+ * - DVS_RESOURCE_NOT_AVAILABLE if exactly this range is not allocated, with the cause
+ *   of a request for it. A part of an allocated range cannot be freed.
  */
 dvs_status dvs_range_free(dvs_address_allocator *allocator, dvs_range range, dvs_refusal *refusal);
 
@@ -1155,7 +1155,8 @@ dvs_status dvs_range_map_allocate(dvs_range_map *map, uint64_t value, const dvs_
  *
  * Errors, in order:
  * - DVS_INVALID_RANGE if `range` is not a valid range.
- * - DVS_RESOURCE_NOT_AVAILABLE if exactly this range is not allocated.
+ * - DVS_RESOURCE_NOT_AVAILABLE if exactly this range is not allocated, with the cause
+ *   of a request for it.
  */
 dvs_status dvs_range_map_free(dvs_range_map *map, dvs_range range, uint64_t *value,
                               dvs_refusal *refusal) DVS_WARN_UNUSED;

@@ -5,7 +5,7 @@ use crate::handle::{found, Handle};
 use crate::objects::{calls, object_calls, visits};
 use crate::proved::vm_range_map::{RangeMap, ValuedRange};
 use crate::rattle::Global;
-use crate::requests::{answered, in_the_way};
+use crate::requests::{answered, in_the_way, not_freed};
 use crate::{dvs_range, In};
 
 /// A map behind a C pointer.
@@ -45,7 +45,9 @@ calls! {
         answered(moved, refusal.is_some(), details)?
     }
     changes dvs_range_map_free(map: In<dvs_range_map>, range: dvs_range) -> value: u64 [refusal] {
-        map.free(&range.try_into()?)?
+        let range = range.try_into()?;
+        let freed = map.free(&range);
+        answered::<u64, u64>(freed, refusal.is_some(), || not_freed(map.addresses(), &range))?
     }
     changes dvs_range_map_set(map: In<dvs_range_map>, address: u64, value: u64) -> before: u64 {
         found(map.set(address, value))?

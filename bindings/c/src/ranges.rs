@@ -7,7 +7,7 @@ use crate::proved::vm_addresses::{
     AddressAllocator, AllocPolicy, Constraint, RangeInclusive, Result as Answer,
 };
 use crate::rattle::Global;
-use crate::requests::{answered, in_the_way};
+use crate::requests::{answered, in_the_way, not_freed};
 use crate::texts::{read_space, save_space};
 use crate::{dvs_range, dvs_refusal, CallError, In};
 
@@ -129,7 +129,9 @@ calls! {
     reads dvs_longest_gap(space: In<dvs_address_allocator>) -> length: u64 { space.longest_gap() }
     reads dvs_free_length(space: In<dvs_address_allocator>) -> length: u64 { space.free_len() }
     changes dvs_range_free(space: In<dvs_address_allocator>, range: dvs_range) [refusal] {
-        space.free(&range.try_into()?)?
+        let range = range.try_into()?;
+        let freed = space.free(&range);
+        answered::<(), ()>(freed, refusal.is_some(), || not_freed(space, &range))?
     }
     changes dvs_range_allocate(space: In<dvs_address_allocator>; request)
         -> range: dvs_range [refusal] {

@@ -2,7 +2,7 @@
 //! Requests for a range.
 
 use crate::proved::vm_addresses::{
-    AllocPolicy, Conflict, Constraint, Error, RangeInclusive, Result as Answer,
+    AddressAllocator, AllocPolicy, Conflict, Constraint, Error, RangeInclusive, Result as Answer,
 };
 use crate::status::{
     DVS_CAUSE_ALLOCATED, DVS_CAUSE_OUTSIDE_SPACE, DVS_CAUSE_OUTSIDE_WINDOW, DVS_INVALID_POLICY,
@@ -86,6 +86,13 @@ pub(crate) fn in_the_way(request: Constraint, conflict: Option<Conflict>) -> Opt
         Conflict::Allocated(held) => (DVS_CAUSE_ALLOCATED, held),
     };
     Some(because_of(cause, request, other.into()))
+}
+
+/// Returns the details of a range that cannot be freed, which are those of a request for this range.
+pub(crate) fn not_freed(space: &AddressAllocator, range: &RangeInclusive) -> Option<dvs_refusal> {
+    let policy = AllocPolicy::ExactMatch(range.start());
+    let request = Constraint::new(range.len(), 1, policy).ok()?;
+    in_the_way(request, space.conflict(request))
 }
 
 /// Returns the details of a request with this cause, and the range that the cause names.

@@ -139,7 +139,12 @@ static const struct step on_space[] = {
     {EXACT, {0x10, 1, 0x1801}, GETS(0x1801, 0x1810)},
     {IS_ALLOCATED, {0x1000, 0x10ff}, GETS_NUMBER(true)},
     {EXACT, {0x100, 0x100, 0x1000}, IS_TAKEN(0x1000, 0x10ff)},
-    {FREE, {0x1000, 0x10fe}, NO_PLACE},
+    /* divsharun.h: "DVS_RESOURCE_NOT_AVAILABLE if exactly this range is not allocated, with the
+     * cause of a request for it." */
+    {FREE, {0x1000, 0x10fe}, IN_THE_WAY(0x1000, 0x10fe, ALLOCATED, 0x1000, 0x10ff)},
+    {FREE, {0x1100, 0x1801}, IN_THE_WAY(0x1100, 0x1801, ALLOCATED, 0x1801, 0x1810)},
+    {FREE, {0x1000, 0x2000}, IN_THE_WAY(0x1000, 0x2000, OUTSIDE_SPACE, 0x1000, 0x1fff)},
+    {FREE, {0x1100, 0x1800}, NO_PLACE},
     {FREE, {2, 1}, TELLS(DVS_INVALID_RANGE, 2, 1)},
     {IS_ALLOCATED, {0, TOP}, TELLS(DVS_INVALID_RANGE, 0, TOP)},
     {IS_ALLOCATED, {0x1000, 0x10fe}, GETS_NUMBER(false)},

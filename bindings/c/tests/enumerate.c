@@ -749,6 +749,9 @@ static void keep_values(void) {
     CHECK(seen.ids[1] == 9 && is_range(seen.ranges[1], 79, 79));
     CHECK(dvs_range_map_allocate(map, 1, &wide, &range, &refusal) == DVS_RESOURCE_NOT_AVAILABLE);
     CHECK(refusal.cause == DVS_CAUSE_ALLOCATED && is_range(refusal.other, 20, 27));
+    CHECK(dvs_range_map_free(map, range_of(20, 26), &count, &refusal) ==
+          DVS_RESOURCE_NOT_AVAILABLE);
+    CHECK(refusal.cause == DVS_CAUSE_ALLOCATED && is_range(refusal.other, 20, 27));
     /* A moved range can overlap its old place. */
     CHECK(dvs_range_map_move(map, range_of(20, 27), &wide, &range, &refusal) == DVS_OK);
     CHECK(dvs_range_map_move(map, range_of(79, 79), &at_its_end, &range, &refusal) ==
