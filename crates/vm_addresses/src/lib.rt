@@ -19,8 +19,8 @@
 //! - The exact result of each call, and each error except out of memory under its condition
 //!   (`Allocates`, `Frees`). An error leaves the same tree, except after `allocate_all`, which leaves
 //!   the same state.
-//! - For every list of calls: held ranges are valid and disjoint, and the state decides the results, unless
-//!   memory runs out.
+//! - In `vm_laws`, for every list of calls: held ranges are valid and disjoint, and the state decides the
+//!   results, unless memory runs out.
 //! - The number of nodes that an allocation and a successful free enter (`EntersToAllocate`,
 //!   `IsFreeCount`).
 //! - A saved tree is read if and only if it is valid, with and without repairs.

@@ -1,5 +1,5 @@
-//! Allocators of address ranges and of ids, under the names of vm-allocator, and the laws of their saved
-//! values. `vm_addresses` and `vm_ids` say what is proved of them.
+//! Allocators of address ranges and of ids, under the names of vm-allocator. `vm_addresses` and `vm_ids` say
+//! what is proved of them.
 //!
 //! - [`AddressAllocator`] allocates ranges of 64-bit addresses from one space.
 //! - [`IdAllocator`] allocates 32-bit ids from a range, the lowest free id first.

@@ -10,8 +10,8 @@
 //!
 //! - The exact result of each call, and each error except out of memory under its condition
 //!   (`AllocatesId`, `FreesId`). An error changes nothing.
-//! - For every list of calls: each id is the lowest that is not held, no id is held twice, and the state
-//!   decides the results, unless memory runs out.
+//! - In `vm_laws`, for every list of calls: each id is the lowest that is not held, no id is held twice, and
+//!   the state decides the results, unless memory runs out.
 //! - Saved ids are read if and only if they are valid (`AreFreedOf`).
 //!
 //! # What is only tested

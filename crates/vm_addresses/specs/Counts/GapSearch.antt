@@ -1,6 +1,6 @@
 -- The number of nodes that a search enters, by the number of gaps that are long enough but have no place.
 --
--- Gaps are counted by tests over the blocks of the state. A law in specs/Laws shows that each test is exact.
+-- Gaps are counted by tests over the blocks of the state. A law of vm_laws shows that each test is exact.
 use Rattle.std.specs.Prelude.{◌≡◌, ℕ, ◌+◌, ◌*◌, ◌≤◌, Bool, List, length, Option, Some, None, MatchOption, Result, Err}
 use Rattle.std.specs.List.{filter}
 use Rattle.vm_ranges.specs.Range.{Range}
