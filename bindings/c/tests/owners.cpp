@@ -3,6 +3,7 @@
  * Guards against owners of divsharun.hpp that leak, or destroy an object twice or in a
  * visit. The lists and the codes of errors must be those of the calls.
  */
+#include "category.hpp"
 #include "check.h"
 
 #include <divsharun.hpp>
@@ -22,6 +23,15 @@ static std::vector<Item> list(const Owner &owner,
     CHECK(!(owner.*listed)(items));
     return items;
 }
+
+template <typename Object> constexpr bool is_number() {
+    return std::is_convertible<Object, bool>::value;
+}
+static_assert(!is_number<dvs::address_allocator>() && !is_number<dvs::id_allocator>() &&
+                  !is_number<dvs::device_manager>() && !is_number<dvs::range_map>() &&
+                  !is_number<dvs::range_lease>() && !is_number<dvs::id_lease>() &&
+                  !is_number<dvs::device_lease>(),
+              "two objects could be added");
 
 static std::vector<dvs_range> ranges_of(const dvs::address_allocator &space) {
     return list(space, &dvs::address_allocator::ranges);
@@ -48,6 +58,7 @@ static void allocate() {
     CHECK(again == dvs::error(DVS_INVALID_STATE_TRANSITION));
     CHECK(again.message() == "Exactly the requested range is already allocated.");
     CHECK(std::string(again.category().name()) == "divsharun");
+    CHECK(again.category() == category_of_second_file());
     CHECK(ranges_of(space).size() == 3 && is_range(ranges_of(space)[1], 0x1200, 0x120f));
     CHECK(gaps_of(space).size() == 2 && !space.longest_gap(length) && length == 0x1f00 - 0x1210);
     std::vector<dvs_range> ranges;

@@ -24,6 +24,27 @@ use std::ops::Bound::{Excluded, Included, Unbounded};
 
 const BASE: u64 = 1000;
 
+/// Uses calls in constants.
+const _: () = {
+    let (Ok(request), Ok(range), Ok(other)) = (
+        Constraint::new(8, 4, AllocPolicy::LastMatch),
+        RangeInclusive::new(1, 4),
+        RangeInclusive::from_start_len(4, 2),
+    ) else {
+        panic!()
+    };
+    assert!(request.size() == 8 && request.align() == 4 && request.window().is_none());
+    assert!(matches!(request.policy(), AllocPolicy::LastMatch));
+    assert!(range.start() == 1 && range.end() == 4 && range.len() == 4);
+    assert!(range.overlaps(&other) && !range.contains(&other) && range.contains_address(4));
+    assert!(matches!(range.offset_of(3), Some(2)) && TryError::OutOfMemory.error().is_none());
+};
+
+/// Returns the range of an id allocator, also in a constant.
+const fn range_of_ids(ids: &IdAllocator) -> (u32, u32) {
+    (ids.range_base(), ids.range_end())
+}
+
 /// Returns the blocks with these allocated ranges and gaps, in order.
 fn blocks_of(held: &[RangeInclusive], gaps: &[RangeInclusive]) -> Vec<Block<'static>> {
     let of = |ranges: &[RangeInclusive], state| -> Vec<Block<'static>> {
@@ -1275,7 +1296,7 @@ fn objects_are_equal_by_what_they_hold() {
     assert_ne!(ids(5, &[6]), ids(5, &[]));
     assert_ne!(ids(5, &[]), ids(6, &[]));
     assert!(ids(5, &[6]).held_ids().eq([5, 7]));
-    assert_eq!((ids(5, &[]).range_base(), ids(5, &[]).range_end()), (5, 9));
+    assert_eq!(range_of_ids(&ids(5, &[])), (5, 9));
 
     let devices = |policy| {
         let mut devices = DeviceManager::new(1, 9, 0x1000, 0x1000).unwrap();
