@@ -64,8 +64,8 @@
  * Cost. Let k be the number of allocated ranges. Allocating, moving and freeing
  * a range takes time of the order of log k, and so do dvs_range_conflict(),
  * dvs_range_is_allocated(), dvs_range_at() and dvs_gap_at(). An alignment can make
- * the search for a range visit more gaps. A visit within a range or from an address
- * takes time of the order of log k, plus the number of allocated ranges and gaps up to
+ * the search for a range visit more gaps. A visit or list within a range or from an
+ * address takes time of the order of log k, plus the number of allocated ranges and gaps up to
  * where it ends.
  *
  * Calls on one id, device or range of a map take logarithmic time too, also if they skip
@@ -200,20 +200,26 @@ typedef struct dvs_refusal {
      * DVS_RESOURCE_NOT_AVAILABLE: the id, if the call was given one.
      */
     uint32_t id;
-    /* DVS_RESOURCE_NOT_AVAILABLE, DVS_INVALID_STATE_TRANSITION: why the range is not available. */
+    /*
+     * DVS_RESOURCE_NOT_AVAILABLE, DVS_INVALID_STATE_TRANSITION: why the range is not available.
+     * DVS_OVERFLOW: why a range of a list is not, if one has the error.
+     */
     uint32_t cause;
 } dvs_refusal;
 
 /*
  * The causes. The first one that applies is written, in this order: outside the space,
- * outside the window, allocated, an earlier request. A call looks for the cause only if
- * its `refusal` is not null. dvs_cause_text() returns the first sentence of a comment.
+ * outside the window, allocated, an earlier request, no fit. A call looks for the cause
+ * only if its `refusal` is not null. dvs_cause_text() returns the first sentence of a
+ * comment without its period, but an empty text for DVS_CAUSE_NONE.
+ *
+ * For a range of a list of ranges, the order is that of the errors of the call.
  */
 enum {
     /*
      * There is no cause. The call has no conflict, another error or no free id, or the range
-     * to move is not allocated. Or no start is given, and the window has addresses of the
-     * space.
+     * to move is not allocated. Or no start is given, the window has addresses of the space,
+     * and the call is a move, a check for conflicts, or for a request after the first one.
      */
     DVS_CAUSE_NONE = 0,
     /* An address is allocated. `other` is the lowest allocated range that has one. */
@@ -226,7 +232,17 @@ enum {
     /* An address is outside the window of the request. `other` is the window. */
     DVS_CAUSE_OUTSIDE_WINDOW = 3,
     /* An address is in the range of an earlier request of the same call. `other` is 0 to 0. */
-    DVS_CAUSE_EARLIER_REQUEST = 4
+    DVS_CAUSE_EARLIER_REQUEST = 4,
+    /* The range does not start after the end of the range before it. `other` is that range. */
+    DVS_CAUSE_NOT_AFTER = 5,
+    /* The range ends at UINT64_MAX. `other` is 0 to 0. */
+    DVS_CAUSE_ENDS_AT_MAX = 6,
+    /*
+     * No gap of the window fits the request. No start is given. `other` is the longest part
+     * of a gap in the window, the lowest of several, or 1 to 0 if no address of it is free.
+     * A call looks at each gap of the window for it.
+     */
+    DVS_CAUSE_NO_FIT = 7
 };
 
 /* The resources of a device. */
@@ -318,11 +334,22 @@ typedef struct dvs_range_map dvs_range_map;
  */
 const char *dvs_status_name(dvs_status status);
 
-/* Returns a description of a status. */
+/* Returns a description of a status, without a period at the end. */
 const char *dvs_status_text(dvs_status status);
 
-/* Returns a description of the cause in a refusal. */
+/* Returns a description of the cause in a refusal, without a period at the end. */
 const char *dvs_cause_text(uint32_t cause);
+
+/*
+ * Writes a line with the numbers of an error to `buffer`, such as "0xfeb00000-0xfeb0ffff
+ * overlaps 0xfeb08000-0xfeb0bfff", without a period or a line break at the end. An error
+ * without numbers has dvs_status_text(). `refusal` can be null. For a conflict, use
+ * DVS_RESOURCE_NOT_AVAILABLE.
+ *
+ * It returns the length of the line, which is below 200, and writes at most `length` bytes
+ * with the zero byte, as snprintf() does. `buffer` can be null if `length` is 0.
+ */
+size_t dvs_refusal_text(dvs_status status, const dvs_refusal *refusal, char *buffer, size_t length);
 
 /*
  * Returns the version of the library that runs, like DVS_VERSION_TEXT. It has
@@ -357,7 +384,7 @@ dvs_status dvs_address_allocator_new(uint64_t base, uint64_t size,
  * - DVS_OUT_OF_MEMORY if memory for a copy of the list runs out.
  * - DVS_UNDERFLOW if `size` is 0.
  * - DVS_OVERFLOW if the space would end past UINT64_MAX.
- * - For the first range that cannot be allocated:
+ * - For the first range that cannot be allocated, with a cause:
  *   - DVS_RESOURCE_NOT_AVAILABLE if it does not start after the end of the range
  *     before it.
  *   - DVS_OVERFLOW if it starts at UINT64_MAX.
@@ -385,8 +412,8 @@ dvs_status dvs_address_allocator_with_held(uint64_t base, uint64_t size, const d
  * - DVS_INVALID_RANGE, with the first range that is not a valid range.
  * - DVS_OUT_OF_MEMORY if memory for a copy of the list runs out.
  * - DVS_UNDERFLOW if there is no range. The array can be null then.
- * - DVS_RESOURCE_NOT_AVAILABLE for the first range that does not start after the end
- *   of the range before it.
+ * - DVS_RESOURCE_NOT_AVAILABLE, with a cause, for the first range that does not start
+ *   after the end of the range before it.
  * - DVS_INVALID_RANGE, with the space, if the space would have all 2^64 addresses.
  * - DVS_OVERFLOW if there are 2^48 or more holes.
  * - DVS_OUT_OF_MEMORY.
@@ -520,6 +547,17 @@ dvs_status dvs_address_allocator_allocate_all(dvs_address_allocator *allocator,
                                               dvs_refusal *refusal) DVS_WARN_UNUSED;
 
 /*
+ * Writes to `range` the range that dvs_range_allocate() would allocate now, and changes
+ * nothing. So a configuration can be checked before it is begun. For DVS_FIRST and DVS_LAST
+ * it goes through the ranges and gaps of the window up to the result. It does not allocate
+ * memory.
+ *
+ * Errors: those of dvs_range_allocate() except DVS_OUT_OF_MEMORY, in the same order.
+ */
+dvs_status dvs_range_peek(const dvs_address_allocator *allocator, const dvs_request *request,
+                          dvs_range *range, dvs_refusal *refusal) DVS_WARN_UNUSED;
+
+/*
  * Writes to `conflict` why the range of a DVS_EXACT request is not free: the cause, the
  * requested range and the one that the cause names, as in a refusal. If the range is
  * free, the cause is DVS_CAUSE_NONE. For the other policies it is
@@ -625,6 +663,41 @@ dvs_status dvs_gap_count(const dvs_address_allocator *allocator, uint64_t *count
 /* Writes the number of free addresses to `length`, in constant time. Errors: DVS_NULL. */
 dvs_status dvs_free_length(const dvs_address_allocator *allocator,
                            uint64_t *length) DVS_WARN_UNUSED;
+
+/*
+ * Writes the allocated ranges that have an address at or above `from` to the array `ranges`
+ * of `capacity` members, in ascending order, and their number to `count`. Each of them is
+ * written whole. If `count` is less than `capacity`, there are no more. It does not allocate
+ * memory. `ranges` can be null if `capacity` is 0. This prints all ranges:
+ *
+ *     static void print_ranges(const dvs_address_allocator *mmio) {
+ *         dvs_range ranges[64];
+ *         uint64_t from = 0;
+ *         size_t count, i;
+ *
+ *         do {
+ *             if (dvs_range_list(mmio, from, ranges, 64, &count) != DVS_OK)
+ *                 return;
+ *             for (i = 0; i < count; i++) {
+ *                 printf("%#jx\n", (uintmax_t)ranges[i].start);
+ *                 from = ranges[i].end + 1;
+ *             }
+ *         } while (count == 64);
+ *     }
+ *
+ * To go through the ranges and the gaps one by one, call dvs_range_at() and dvs_gap_at()
+ * with the first address of the space, and then with `range.end + 1`, up to its last one.
+ * Errors: DVS_NULL.
+ */
+dvs_status dvs_range_list(const dvs_address_allocator *allocator, uint64_t from, dvs_range *ranges,
+                          size_t capacity, size_t *count) DVS_WARN_UNUSED;
+
+/*
+ * Writes the gaps that have an address at or above `from`, like dvs_range_list(). Only a gap
+ * can end at UINT64_MAX, and is the last one then. Errors: DVS_NULL.
+ */
+dvs_status dvs_gap_list(const dvs_address_allocator *allocator, uint64_t from, dvs_range *gaps,
+                        size_t capacity, size_t *count) DVS_WARN_UNUSED;
 
 /*
  * The function that a visit calls for each range, with its `context`. It returns
@@ -1187,6 +1260,13 @@ dvs_status dvs_range_map_set(dvs_range_map *map, uint64_t address, uint64_t valu
 
 /* Writes the number of allocated ranges to `count`, in constant time. Errors: DVS_NULL. */
 dvs_status dvs_range_map_count(const dvs_range_map *map, uint64_t *count) DVS_WARN_UNUSED;
+
+/*
+ * Writes the allocated ranges that have an address at or above `from` with their values, like
+ * dvs_range_list(). It looks up each value. Errors: DVS_NULL.
+ */
+dvs_status dvs_range_map_list(const dvs_range_map *map, uint64_t from, dvs_valued_range *ranges,
+                              size_t capacity, size_t *count) DVS_WARN_UNUSED;
 
 /* The function that dvs_range_map_visit() calls for each range. It has the rules of
  * dvs_range_visitor. */

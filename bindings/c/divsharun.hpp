@@ -71,13 +71,16 @@ class DVS_MUST_CHECK error : public std::error_code {
     }
 };
 
-/* Why the range at a given start is not available. */
+/* Why a range is not available. */
 enum class cause : uint32_t {
     none = DVS_CAUSE_NONE,
     allocated = DVS_CAUSE_ALLOCATED,
     outside_space = DVS_CAUSE_OUTSIDE_SPACE,
     outside_window = DVS_CAUSE_OUTSIDE_WINDOW,
-    earlier_request = DVS_CAUSE_EARLIER_REQUEST
+    earlier_request = DVS_CAUSE_EARLIER_REQUEST,
+    not_after = DVS_CAUSE_NOT_AFTER,
+    ends_at_max = DVS_CAUSE_ENDS_AT_MAX,
+    no_fit = DVS_CAUSE_NO_FIT
 };
 
 inline cause cause_of(const dvs_refusal &refusal) noexcept {
@@ -85,6 +88,13 @@ inline cause cause_of(const dvs_refusal &refusal) noexcept {
 }
 inline const char *text_of(cause found) noexcept {
     return dvs_cause_text(static_cast<uint32_t>(found));
+}
+/* A line with the numbers of an error. */
+inline std::string text_of(error code, const dvs_refusal &refusal) {
+    char line[200];
+
+    return std::string(
+        line, dvs_refusal_text(static_cast<dvs_status>(code.value()), &refusal, line, sizeof line));
 }
 
 inline error range_from(uint64_t start, uint64_t length, dvs_range &range) noexcept {
@@ -404,6 +414,10 @@ class address_allocator : public space_owner {
                      dvs_refusal *refusal = nullptr) noexcept {
         return dvs_range_move_request(get(), range, &asked.get(), &moved, refusal);
     }
+    error peek(const request &asked, dvs_range &range,
+               dvs_refusal *refusal = nullptr) const noexcept {
+        return dvs_range_peek(get(), &asked.get(), &range, refusal);
+    }
     error conflict(const request &asked, dvs_refusal &found) const noexcept {
         return dvs_range_conflict(get(), &asked.get(), &found);
     }
@@ -424,6 +438,14 @@ class address_allocator : public space_owner {
     error range_count(uint64_t &count) const noexcept { return dvs_range_count(get(), &count); }
     error gap_count(uint64_t &count) const noexcept { return dvs_gap_count(get(), &count); }
     error free_length(uint64_t &length) const noexcept { return dvs_free_length(get(), &length); }
+    error list_ranges(uint64_t from, dvs_range *ranges, std::size_t capacity,
+                      std::size_t &count) const noexcept {
+        return dvs_range_list(get(), from, ranges, capacity, &count);
+    }
+    error list_gaps(uint64_t from, dvs_range *gaps, std::size_t capacity,
+                    std::size_t &count) const noexcept {
+        return dvs_gap_list(get(), from, gaps, capacity, &count);
+    }
     error ranges(std::vector<dvs_range> &ranges) const { return list_by(dvs_range_visit, ranges); }
     error gaps(std::vector<dvs_range> &gaps) const { return list_by(dvs_gap_visit, gaps); }
     error ranges_in(dvs_range within, std::vector<dvs_range> &ranges,
@@ -597,6 +619,10 @@ class range_map
     }
     error space(dvs_range &space) const noexcept { return dvs_range_map_space(get(), &space); }
     error range_count(uint64_t &count) const noexcept { return dvs_range_map_count(get(), &count); }
+    error list_ranges(uint64_t from, dvs_valued_range *ranges, std::size_t capacity,
+                      std::size_t &count) const noexcept {
+        return dvs_range_map_list(get(), from, ranges, capacity, &count);
+    }
     error ranges(std::vector<dvs_valued_range> &ranges) const {
         return list_by(dvs_range_map_visit, ranges);
     }

@@ -25,6 +25,7 @@ FOLDERS = {
     "std": ("core", {"mem"}),
     "std::alloc": ("crate::rattle", {"AllocError", "AllocFailed", "Global"}),
     "std::cmp": ("core::cmp", {"Ordering"}),
+    "std::fmt": ("core::fmt", {"Debug", "Formatter", "Result", "Write"}),
     "std::io": ("std::io", {"Read", "Write"}),
     "std::marker": (None, {"Model"}),
     "std::result": ("core::result", {"Result"}),
@@ -32,36 +33,39 @@ FOLDERS = {
     "thiserror": (None, {"Error"}),
 }
 FOLDERS_OF_TESTS = {
-    "std::fmt": ("core::fmt", {"Debug", "Display"}),
+    "std::fmt": ("core::fmt", {"Debug", "Display", "Formatter", "Result", "Write"}),
     "std::process": ("crate::testing", {"Abort"}),
 }
 LIBRARIES = {folder.split("::")[0] for folder in FOLDERS}
 # Libraries whose items only proved modules can use. They alone can also use a public function of another library
 # that has a precondition.
-INNER = {"vm_chunks", "vm_commands", "vm_leaf", "vm_tree"}
+INNER = {"vm_btree", "vm_commands", "vm_leaf", "vm_list", "vm_space", "vm_tree"}
+# A library of which the others do not use everything.
+WIDE = {"vm_btree"}
 # Libraries that callers in Rust and C need, and no program.
 FOR_CALLERS = {"vm_range_map"}
 # Names of Rattle's prelude that Rust's prelude does not have or defines differently. `rattle` has them.
 PRELUDE = {"Box", "Vec"}
 # Names of both preludes, and further names of libraries.
-NAMES = {"Err", "None", "Ok", "Option", "Result", "Some"}
+NAMES = {"Copy", "Err", "None", "Ok", "Option", "Result", "Some"}
 NUMBERS = {"u8", "u32", "u64", "u128", "usize"}
 ASSOCIATED = {
-    "Box::new", "Ord::cmp",
+    "Box::into_inner", "Box::new", "Ord::cmp",
     "Ordering::Equal", "Ordering::Greater", "Ordering::Less", "Value::Null", "Value::as_u64", "Value::from",
-    "Value::try_from_str", "Vec::new", "Vec::with_capacity", "mem::replace", "u128::from", "u32::MAX", "u32::try_from",
+    "Value::try_from_str", "Vec::new", "Vec::with_capacity", "mem::replace", "mem::swap", "u128::from", "u32::MAX", "u32::try_from",
     "u32::from", "u64::MAX", "u64::from", "usize::from",
 }
 # Methods of types of other crates. Each was compared with the method of Rust.
-METHODS = set("""and_then as_array as_object as_slice as_str as_u64 capacity checked_add checked_mul checked_sub clone cmp
-    contains copy_from_slice copy_within enumerate extend_from_slice fill first flush get ilog2 insert into
-    is_ascii_digit is_empty is_err is_none is_null is_ok is_power_of_two is_some iter last len max min next
-    next_back ok ok_or partition_point pop pop_first position push range read remove reserve rotate_left saturating_add
-    saturating_sub split_at split_first split_last take trailing_zeros truncate unwrap
+METHODS = set("""and_then append as_array as_object as_slice as_str as_u64 capacity checked_add checked_mul
+    checked_sub clone cmp contains copied copy_from_slice copy_within debug_list entries enumerate
+    extend_from_slice fill finish first flush get ilog2 insert into is_ascii_digit is_empty is_err is_none
+    is_null is_ok is_power_of_two is_some iter last len max min next next_back ok ok_or partition_point pop
+    pop_first position push range read remove reserve rotate_left rotate_right saturating_add saturating_sub
+    split_at split_at_mut split_first split_last split_off swap_with_slice take trailing_zeros truncate unwrap
     write_all""".split())
 MACROS = {"json", "matches", "unreachable"}
 DERIVES = {"Clone", "Copy", "Debug", "Default", "Drop", "Eq", "Error", "Hash", "Ord", "PartialEq", "PartialOrd"}
-TRAITS = {"DoubleEndedIterator", "Eq", "ExactSizeIterator", "From", "Iterator", "Ord", "PartialEq", "PartialOrd"}
+TRAITS = {"Clone", "Debug", "DoubleEndedIterator", "Eq", "ExactSizeIterator", "From", "Iterator", "Ord", "PartialEq", "PartialOrd"}
 # Names that no item of a crate may have, because the tables mean the items of the libraries.
 TAKEN = (PRELUDE | NAMES | NUMBERS | TRAITS | {path.split("::")[0] for path in ASSOCIATED}) - {"Result"}
 ATTRIBUTES = {"allow", "cold", "default", "error", "inline"}
@@ -79,9 +83,9 @@ MODULES = ORIGIN.format("crates.txt") + """
 #![forbid(unsafe_code)]
 // Names are public in Rattle, and some proofs need another form than these lints or a statement that is removed.
 #![allow(clippy::enum_variant_names, clippy::wrong_self_convention)]
-#![allow(clippy::needless_range_loop, clippy::only_used_in_recursion)]
-#![allow(clippy::question_mark, clippy::while_let_on_iterator)]
-#![allow(unused_imports)]
+#![allow(clippy::large_enum_variant, clippy::needless_range_loop, clippy::only_used_in_recursion)]
+#![allow(clippy::question_mark, clippy::too_many_arguments, clippy::while_let_on_iterator)]
+#![allow(unused_imports, unused_variables)]
 """
 ATTRIBUTES_WITH_TESTS = "#![allow(dead_code, unused_assignments, unused_variables)]\n"
 # Code that only readers of values or callers in Rattle reach, in files that the package has, and an error that no call returns.
@@ -114,7 +118,7 @@ GHOST_USE = re.compile(r" use (?:[^;\"\n]|\n(?!\n))*?;")
 GHOST_MEMBER = re.compile(r" [A-Za-z_]\w*(:| =) (?=\{)")
 # A comment for the prover, and statements under it that only read: a field, or a method of the table.
 FOR_PROOF = re.compile(r"// Proof: [^\n]*\n *let _\w")
-READS = re.compile(r"// Proof: [^\n]*(?:\n *let _\w+(?:: &\w+)? = &?\w+(?:\.(?:end|height|len)\(\)|\.\w+(?!\())*;)+")
+READS = re.compile(r"// Proof: [^\n]*(?:\n *let _\w+(?:: &\w+)? = &?\w+(?:\.(?:end|height|len|size)\(\)|\.\w+(?!\())*;)+")
 # A text with fields by their numbers. `write!` and the derive of `Error` mean the same by it.
 TEXT_OF_ERROR = re.compile(r'"(?:[^"\\{}]|\{[0-9](?::\?)?\})*"')
 OPENING, CLOSING = {"(", "[", "{"}, {")", "]", "}"}
@@ -355,20 +359,20 @@ class File(Tokens):
         after them."""
         if not self.at(index, "<"):
             return index
-        behind = index + 1
-        while not self.at(behind, ">"):
+        behind, depth = index + 1, 1
+        while depth > 0:
             token, before = self.tokens[behind], self.tokens[behind - 1].text
-            if self.at(behind, ":", "Drop"):  # every type of Rust satisfies this bound
-                self.cut(behind, behind + 2)
-                behind += 2
-                continue
-            self.refuse_if(token.kind == "mark" and token.text not in (",", ":", "+"), "parameters of this form", behind)
-            if before in (":", "+"):
+            if before in (":", "+") and token.text == "Drop":  # every type of Rust satisfies this bound
+                self.cut(behind - 1, behind + 1)
+            elif before in (":", "+", "<") and (depth > 1 or before != "<") and token.kind == "word":
                 self.uses.append((token.start, "a type", token.text))
             elif token.kind == "word" and token.text not in ("_", "const"):
                 self.define(behind, self.generics)
+            is_known = token.kind != "mark" or token.text in (",", ":", "+", "<", ">", ">>")
+            self.refuse_if(not is_known, "parameters of this form", behind)
+            depth += token.text.count("<") - token.text.count(">")
             behind += 1
-        return behind + 1
+        return behind
 
     def define(self, index, names):
         """Adds the name at an index to the names of the crate."""
@@ -461,10 +465,14 @@ class File(Tokens):
         return behind, True
 
     def trait(self, item):
-        """Reads a trait of values that are copied: functions without bodies."""
+        """Reads a trait: functions without bodies."""
         self.define(item.keyword + 1, self.crate.names)
-        self.refuse_if(not self.at(item.keyword + 2, ":", "Copy", "{"), "a trait of this form", item.keyword)
-        return self.items(item.keyword + 5, "trait") + 1, True
+        index = self.angles(item.keyword + 2)
+        if self.at(index, ":", "Drop"):  # a value has a size, and every type of Rust can be dropped
+            self.cut(index + 1, index + 2, "Sized")
+        index += 2 if self.at(index, ":") and self.tokens[index + 1].text in {"Copy", "Drop"} | self.crate.traits else 0
+        self.refuse_if(not self.at(index, "{"), "a trait of this form", item.keyword)
+        return self.items(index + 1, "trait") + 1, True
 
     def display(self, name, index, behind):
         """Turns the texts of the variants of an enum, `#[error("..")]`, into its `Display`."""
@@ -492,7 +500,8 @@ class File(Tokens):
         if nothing and not (item.public or item.is_test or item.owner):
             return behind, False  # a law: only its clauses matter
         name = self.define(item.keyword + 1, self.crate.functions)
-        if item.owner not in (None, "impl") and item.keyword in self.asking and not self.of_tests:
+        is_inner = self.of_tests or self.crate.name in INNER
+        if item.owner not in (None, "impl") and item.keyword in self.asking and not is_inner:
             self.fail(f"a 'requires' of {name!r}, which anyone may call", self.asking[item.keyword])
         if item.is_test:
             self.take_runtime(index, body)
@@ -511,9 +520,12 @@ class File(Tokens):
     def implementation(self, item):
         index = self.angles(item.keyword + 1)
         behind = index + 1
-        if self.at(index, "From", "<"):  # the only trait with a type argument
-            behind = self.next_of(index, "for", "{")
-            self.uses += [(token.start, "a type", token.text) for token in self.tokens[index + 1:behind] if token.kind == "word"]
+        if self.at(self.next_of(index, "for", "{"), "for"):  # a trait can have type arguments
+            behind = self.next_of(index, "for")
+            if not self.of_tests:
+                self.uses += [(token.start, "a type", token.text) for token in self.tokens[index + 1:behind] if token.kind == "word"]
+        if self.tokens[index].text in self.crate.stands_on and self.at(index + 1, "::") and self.at(index + 3, "for"):
+            index, behind = index + 2, index + 3  # a trait of another crate, by its path
         trait = self.tokens[index].text if self.at(behind, "for") else None
         index = behind + 1 if trait else index
         name = self.tokens[index].text
@@ -528,6 +540,18 @@ class File(Tokens):
         is_allowed = not trait or trait in known
         self.refuse_if(not is_allowed, f"an impl of {trait!r}", item.keyword)
         self.first_kept = self.first_kept or self.start_of(item.start)
+        if trait == "Clone":  # what clones without memory: `Result<Self, AllocError>` is `Self`, and `Ok(..)` the value
+            is_known = self.at(index + 7, "->", "Result", "<", "Self", ",", "AllocError", ">", "{", "Ok", "(")
+            end = self.matching(index + 16)
+            self.refuse_if(not is_known or not self.at(end, "}", "}"), "a 'clone' of this form", index)
+            self.cut(index + 8, index + 14, "Self")
+            self.cut(index + 15, index + 17)
+            self.cut(end - 1, end)
+        if trait == "Debug":
+            is_known = self.at(index + 3, "<", "W", ":", "Write", ">") and self.at(index + 17, "<", "W", ">")
+            self.refuse_if(not is_known, "a 'fmt' of this form", index)
+            self.cut(index + 3, index + 8)
+            self.cut(index + 18, index + 19, "'_")
         return self.items(index + 1, trait or "impl") + 1, True
 
     # ---- Names in code ----
@@ -540,7 +564,7 @@ class File(Tokens):
                 is_allowed = "pub" in allowed and self.tokens[index + 2].text in ATTRIBUTES  # of fields and variants
                 self.refuse_if(not is_allowed, "an attribute in code", index)
                 index = self.matching(index + 1)
-            elif token.kind != "word":
+            elif token.kind != "word" or self.at(index, "const", "{"):
                 index += 1
             elif token.text in ITEM_WORDS and token.text not in allowed and not self.of_tests:
                 self.fail(f"an item {token.text!r} in code", token.start)
@@ -559,7 +583,7 @@ class File(Tokens):
                 self.cut(first, index - 1, folder[0] or self.fail(f"{name!r} in code", self.start_of(first)))
         elif self.of_tests:
             self.name_in_tests(first)
-        elif word in REFUSED_WORDS or self.at(last + 1, "::"):
+        elif word in REFUSED_WORDS or self.at(last + 1, "::") and not self.at(last + 1, "::", "<"):
             self.fail(f"{word!r} in code", self.start_of(first))
         else:
             self.name(first, last)
@@ -596,7 +620,7 @@ class File(Tokens):
             if not self.is_known(kind, name):
                 self.fail(f"{kind} {name!r} that is in no table", start)
         for start, name in self.public_fields:
-            if name in self.crate.guarded and not self.of_tests:
+            if name in self.crate.guarded and not self.of_tests and self.crate.name not in INNER:
                 self.fail(f"a public field of {name!r}, which has ghosts", start)
 
     def is_known(self, kind, name):
@@ -693,8 +717,8 @@ class Crate:
         self.asks_for_std = False
         self.root = os.path.join(self.folder, "lib.rt")
         self.names, self.functions = set(), set()
-        text = pathlib.Path(self.root).read_text(encoding="utf-8") if os.path.exists(self.root) else ""
-        self.traits = set(re.findall(r"^pub trait (\w+)", text, re.M))  # also modules before it implement them
+        texts = [path.read_text(encoding="utf-8") for path in pathlib.Path(self.folder).rglob("*.rt")]
+        self.traits = set(re.findall(r"^pub trait (\w+)", "\n".join(texts), re.M))  # also modules before it implement them
         self.guarded = set()  # types with ghosts
         self.files, self.of_values = {}, set()  # of_values: files that import serde_json, without `.rt`
         self.files[self.root] = File(self, self.root, of_tests)
@@ -760,7 +784,7 @@ def erase(folder, out, with_tests):
     project = Project(folder, with_tests)
     texts = {"mod.rs": MODULES + (ATTRIBUTES_WITH_TESTS if with_tests else "") + "\n"}
     for name, crate in sorted(project.crates.items()):
-        texts["mod.rs"] += ('#[cfg(feature = "std")]\n' if crate.asks_for_std else "") + f"{'' if name in INNER else 'pub '}mod {name};\n"
+        texts["mod.rs"] += '#[cfg(feature = "std")]\n' * crate.asks_for_std + "#[allow(dead_code)]\n" * (name in WIDE) + f"{'' if name in INNER else 'pub '}mod {name};\n"
         texts |= crate.texts()
     for path in [path for name in project.libraries for path in pathlib.Path(out, name).rglob("*.rs")]:
         if str(path.relative_to(out)) not in texts:

@@ -13,7 +13,7 @@ import pathlib
 import re
 import sys
 
-from erase import INNER
+from erase import INNER, WIDE
 
 TOKEN = re.compile(r"""//[^\n]*|r\#".*?"\#|b?"(?:[^"\\]|\\.)*"|b?'(?:[^'\\]|\\.)'|\w+|[^\w\s]""", re.DOTALL)
 # Texts that the first eraser changes, in this order. NAME is the crate.
@@ -23,8 +23,11 @@ CHANGED = [
     (r"\bcrate::(?!proved)", "crate::proved::NAME::"),
     (r"(?<![\w:])(vm_\w+)::", r"crate::proved::\1::"),
     (r"\bstd::alloc::", "crate::rattle::"),
-    (r"\bstd::(cmp|mem|result)\b", r"core::\1"),
-    (r"(?m)(^ *(?:(?:pub(?:\(\w+\))? )?fn \w+|impl)<.*?): Drop(?=[,>])", r"\1"),
+    (r"\bstd::(cmp|fmt|mem|result)\b", r"core::\1"),
+    (r"(fn fmt)<W: Write>(.*Formatter<)W>", r"\1\2'_>"),
+    (r"(fn clone\(&self\) -> )Result<Self, AllocError>( \{\s+)Ok\(((?:.|\n)*?)\)(?=\s+\}\n\})", r"\1Self\2\3"),
+    (r"(trait \w+): Drop\b", r"\1: Sized"),
+    (r"(?::| \+) Drop\b", ""),
     (r"(#\[derive\(.*?)(?:, )?\bDrop\b", r"\1"),
     (r"(#\[derive\(.*?)(?:, )?\bError\b", r"\1"),
     (r"#\[derive\((?:, )?(.*?)\)\]", r"#[derive(\1)]"),
@@ -77,7 +80,8 @@ def piece_end(tokens, index):
         return behind(tokens, index, "[", "]")
     if at("#", "[", "cfg", "(", "test", ")", "]"):
         return item_end(tokens, index)
-    head = " ".join(tokens[index:tokens.index("{", index)]) if at("impl") or at("fn") else ""
+    end = tokens.index("{", index) if "{" in tokens[index:] else len(tokens)
+    head = " ".join(tokens[index:end]) if at("impl") or at("fn") else ""
     if re.match(r"impl( <.*>)? Model for \w+", head):
         return item_end(tokens, index)
     if re.match(r"fn \w+ (?:< [^()]+ > )?\( \)(?! ->)", head):
@@ -149,7 +153,7 @@ def has_all_modules(proved):
     want = ""
     for folder in sorted(path for path in proved.iterdir() if path.is_dir()):
         needs_std = any("use std::io::" in path.read_text(encoding="utf-8") for path in folder.rglob("*.rs"))
-        want += '#[cfg(feature = "std")]\n' * needs_std + "pub " * (folder.name not in INNER) + f"mod {folder.name};\n"
+        want += '#[cfg(feature = "std")]\n' * needs_std + "#[allow(dead_code)]\n" * (folder.name in WIDE) + "pub " * (folder.name not in INNER) + f"mod {folder.name};\n"
     have = re.sub(r"(?m)^(?://.*|#!\[.*)?\n", "", (proved / "mod.rs").read_text(encoding="utf-8"))
     if have != want:
         print(f"mod.rs: expected {want}, written {have}")

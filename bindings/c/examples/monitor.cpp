@@ -37,8 +37,8 @@ class card {
     }
 };
 
-/* Plugs three cards, of which two have an interrupt, and unplugs them. Returns what was allocated.
- */
+/* Plugs a card that is too large, and three cards for two interrupts, and unplugs them. Returns
+ * what was allocated. */
 static std::string plug_cards(dvs::address_allocator &mmio) {
     using dvs::request;
     const std::vector<request> bars = {
@@ -46,9 +46,12 @@ static std::string plug_cards(dvs::address_allocator &mmio) {
         request::first(0x10000000, 0x10000000).within({0x100000000, UINT64_MAX})};
     dvs::id_allocator interrupts;
     std::string saved;
-    card cards[3];
+    const std::vector<request> too_large = {bars[0], request::first(0x1000000000, 0x1000000000)};
+    card cards[3], large;
 
     check(interrupts.make(5, 6), "the interrupts");
+    if (large.plug(mmio, interrupts, too_large) == DVS_RESOURCE_NOT_AVAILABLE)
+        std::cout << "a card is too large\n";
     for (card &one : cards)
         if (one.plug(mmio, interrupts, bars) == DVS_RESOURCE_NOT_AVAILABLE)
             std::cout << "a card does not fit, so it has no BAR\n";

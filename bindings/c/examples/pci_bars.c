@@ -53,15 +53,19 @@ static void plug_card(dvs_address_allocator *mmio, char *card, const dvs_request
  * misaligned, outside the window or not free. */
 static void program_bar(dvs_address_allocator *mmio, dvs_request bar, uint64_t start,
                         dvs_range *range) {
+    dvs_refusal refusal;
     dvs_status status;
+    char why[200];
 
     bar.policy = DVS_EXACT;
     bar.start = start;
-    status = dvs_range_move_request(mmio, *range, &bar, range, NULL);
-    if (status == DVS_OK)
+    status = dvs_range_move_request(mmio, *range, &bar, range, &refusal);
+    if (status == DVS_OK) {
         print_range("moved", *range);
-    else
-        printf("not moved to %#" PRIx64 ": %s\n", start, dvs_status_text(status));
+    } else {
+        dvs_refusal_text(status, &refusal, why, sizeof why);
+        printf("not moved to %#" PRIx64 ": %s\n", start, why);
+    }
 }
 
 /* Makes a BAR twice as long, in place. It stays unchanged if another range is in the way. */

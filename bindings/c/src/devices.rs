@@ -9,7 +9,7 @@ use crate::proved::vm_devices::{DeviceManager, DeviceSlot};
 use crate::proved::vm_ids::IdRequest;
 use crate::ranges::dvs_address_allocator;
 use crate::rattle::Global;
-use crate::requests::{answered, in_the_way};
+use crate::requests::{answered, in_the_way, no_range};
 use crate::texts::{read_devices, save_devices};
 use crate::{dvs_range, dvs_refusal, CallError, In, Out};
 
@@ -47,7 +47,7 @@ fn reserve(
 /// Returns the details of a refused device. If there is no id for it, no range is in the way.
 fn details(manager: &DeviceManager, id: IdRequest, request: Constraint) -> Option<dvs_refusal> {
     manager.ids().peek(id).ok()?;
-    in_the_way(request, manager.addresses().conflict(request))
+    no_range(request, manager.addresses())
 }
 
 object_calls! {
@@ -109,7 +109,7 @@ calls! {
         };
         answered(moved, refusal.is_some(), details)?
     }
-    reads dvs_device_conflict(manager: In<dvs_device_manager>; request) -> found: dvs_refusal {
+    reads dvs_device_conflict(manager: In<dvs_device_manager>; request) -> conflict: dvs_refusal {
         in_the_way(request, manager.addresses().conflict(request)).unwrap_or_default()
     }
     reads dvs_device_manager_ids(manager: In<dvs_device_manager>, first: Out<u32>) -> last: u32 {

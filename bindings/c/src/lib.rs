@@ -29,6 +29,7 @@ mod proved;
 mod ranges;
 #[path = "../../rust/divsharun/src/rattle/mod.rs"]
 mod rattle;
+mod refusal_text;
 mod requests;
 mod runtime;
 mod status;

@@ -4,12 +4,15 @@
 use crate::handle::{non_null, Handle};
 use crate::objects::calls;
 use crate::proved::vm_addresses::{
-    AddressAllocator, AllocPolicy, Constraint, ListError, RangeInclusive,
+    AddressAllocator, AllocPolicy, Constraint, ListConflict, ListError, RangeInclusive,
 };
 use crate::ranges::dvs_address_allocator;
 use crate::rattle::{self, Global};
-use crate::requests::{because_of, dvs_request, in_the_way, refused};
-use crate::status::{DVS_CAUSE_EARLIER_REQUEST, DVS_NULL, DVS_OUT_OF_MEMORY};
+use crate::requests::{because_of, dvs_request, in_the_way, no_range, refused};
+use crate::status::{
+    DVS_CAUSE_EARLIER_REQUEST, DVS_CAUSE_ENDS_AT_MAX, DVS_CAUSE_NOT_AFTER, DVS_CAUSE_OUTSIDE_SPACE,
+    DVS_NULL, DVS_OUT_OF_MEMORY,
+};
 use crate::{dvs_range, dvs_refusal, CallError, In, Out};
 use alloc::vec::Vec;
 use core::slice;
@@ -34,11 +37,30 @@ pub(crate) unsafe fn array<'a, T>(first: *const T, count: usize) -> Result<&'a [
     }
 }
 
-impl From<ListError> for CallError {
-    fn from(ListError { index, error }: ListError) -> Self {
-        let failure = CallError::from(error);
-        CallError { index, ..failure }
+/// Writes items to the array of a caller until it is full, and returns their number.
+///
+/// # Errors
+///
+/// - `Null` if the pointer is null and the array is not empty.
+///
+/// # Safety
+///
+/// The pointer is null or points to `capacity` writable members.
+pub(crate) unsafe fn fill<T>(
+    items: impl Iterator<Item = impl Into<T>>,
+    first: *mut T,
+    capacity: usize,
+) -> Result<usize, CallError> {
+    if first.is_null() && capacity > 0 {
+        return Err(DVS_NULL.into());
     }
+    let mut count = 0;
+    for item in items.take(capacity) {
+        // SAFETY: the array has this member.
+        unsafe { first.add(count).write(item.into()) };
+        count += 1;
+    }
+    Ok(count)
 }
 
 /// Converts each member of the array of a caller.
@@ -82,6 +104,39 @@ fn checked(range: &dvs_range) -> Result<RangeInclusive, CallError> {
     Ok((*range).try_into()?)
 }
 
+/// Returns the error of a list of ranges. If a range fails, its details have the reason in this space.
+fn refused_list(
+    ListError { index, error }: ListError,
+    space: Option<RangeInclusive>,
+    ranges: &[RangeInclusive],
+) -> CallError {
+    let mut failure = CallError::from(error);
+    failure.index = index;
+    if let Some(details) = index.and_then(|index| not_after(&space?, ranges, index)) {
+        failure.details = details;
+    }
+    failure
+}
+
+/// Returns the details of a range of a list that cannot be allocated after the ranges before it.
+fn not_after(
+    space: &RangeInclusive,
+    ranges: &[RangeInclusive],
+    index: usize,
+) -> Option<dvs_refusal> {
+    let (cause, other) = match AddressAllocator::list_conflict(space, ranges, index)? {
+        ListConflict::NotAfter(before) => (DVS_CAUSE_NOT_AFTER, before.into()),
+        ListConflict::OutsideSpace(space) => (DVS_CAUSE_OUTSIDE_SPACE, space.into()),
+        ListConflict::EndsAtMax => (DVS_CAUSE_ENDS_AT_MAX, dvs_range::default()),
+    };
+    Some(dvs_refusal {
+        range: (*ranges.get(index)?).into(),
+        other,
+        cause,
+        ..dvs_refusal::default()
+    })
+}
+
 /// Returns the details of a request for a given start that only an earlier request of its list is in the way
 /// of. `allocate_all` has freed the range of that one.
 fn earlier(request: Constraint) -> Option<dvs_refusal> {
@@ -95,13 +150,17 @@ calls! {
     ) -> made: *mut dvs_address_allocator, failed of count [refusal] {
         // SAFETY: the array is as the header requires.
         let held = unsafe { converted(held, count, checked) }?;
-        Handle::new(AddressAllocator::with_held(Global, base, size, &held)?)?
+        let space = RangeInclusive::from_start_len(base, size).ok();
+        let made = AddressAllocator::with_held(Global, base, size, &held);
+        Handle::new(made.map_err(|failure| refused_list(failure, space, &held))?)?
     }
     takes dvs_address_allocator_with_free(ranges: *const dvs_range, count: usize)
         -> made: *mut dvs_address_allocator, failed of count [refusal] {
         // SAFETY: the array is as the header requires.
         let free = unsafe { converted(ranges, count, checked) }?;
-        Handle::new(AddressAllocator::with_free(Global, &free)?)?
+        let made = AddressAllocator::with_free(Global, &free);
+        // The space starts with the first range, so a range is never outside it.
+        Handle::new(made.map_err(|failure| refused_list(failure, free.first().copied(), &free))?)?
     }
     takes dvs_address_allocator_allocate_all(
         allocator: In<dvs_address_allocator>, requests: *const dvs_request, count: usize,
@@ -117,8 +176,13 @@ calls! {
         let allocated = object.allocate_all(Global, &requests);
         let allocated = allocated.map_err(|ListError { index, error }| {
             let details = || {
-                let request = *requests.get(index?)?;
-                in_the_way(request, object.conflict(request)).or_else(|| earlier(request))
+                let index = index?;
+                let request = *requests.get(index)?;
+                // The gaps are those of the first request.
+                match index {
+                    0 => no_range(request, object),
+                    _ => in_the_way(request, object.conflict(request)).or_else(|| earlier(request)),
+                }
             };
             let failure = refused(error, refusal.is_some(), details);
             CallError { index, ..failure }

@@ -2,10 +2,12 @@
 //! The map from allocated ranges to values.
 
 use crate::handle::{found, Handle};
+use crate::lists::fill;
 use crate::objects::{calls, object_calls, visits};
 use crate::proved::vm_range_map::{RangeMap, ValuedRange};
+use crate::ranges::at_or_above;
 use crate::rattle::Global;
-use crate::requests::{answered, in_the_way, not_freed};
+use crate::requests::{answered, in_the_way, no_range, not_freed};
 use crate::{dvs_range, In};
 
 /// A map behind a C pointer.
@@ -34,7 +36,7 @@ calls! {
     changes dvs_range_map_allocate(map: In<dvs_range_map>, value: u64; request)
         -> range: dvs_range [refusal] {
         let allocated = map.allocate_constraint(Global, request, value);
-        let details = || in_the_way(request, map.addresses().conflict(request));
+        let details = || no_range(request, map.addresses());
         answered(allocated, refusal.is_some(), details)?
     }
     changes dvs_range_map_move(map: In<dvs_range_map>, range: dvs_range; request)
@@ -54,6 +56,13 @@ calls! {
     }
     reads dvs_range_map_get(map: In<dvs_range_map>, address: u64) -> valued: dvs_valued_range {
         found(map.get(address))?
+    }
+    reads dvs_range_map_list(
+        map: In<dvs_range_map>, from: u64, ranges: *mut dvs_valued_range, capacity: usize
+    ) -> count: usize {
+        let held = map.addresses().held_ranges_in(&at_or_above(map.addresses(), from)?);
+        // SAFETY: the array is as the header requires.
+        unsafe { fill(held.filter_map(|range| map.get(range.start())), ranges, capacity) }?
     }
     reads dvs_range_map_count(map: In<dvs_range_map>) -> count: u64 { map.addresses().held_count() }
     reads dvs_range_map_space(map: In<dvs_range_map>) -> ends: dvs_range {

@@ -2,12 +2,13 @@
 //! The address allocator.
 
 use crate::handle::{found, Handle};
+use crate::lists::fill;
 use crate::objects::{calls, object_calls, visits};
 use crate::proved::vm_addresses::{
     AddressAllocator, AllocPolicy, Constraint, RangeInclusive, Result as Answer,
 };
 use crate::rattle::Global;
-use crate::requests::{answered, in_the_way, not_freed};
+use crate::requests::{answered, in_the_way, no_range, not_freed};
 use crate::texts::{read_space, save_space};
 use crate::{dvs_range, dvs_refusal, CallError, In};
 
@@ -21,7 +22,7 @@ fn allocate(
     wants_details: bool,
 ) -> Result<dvs_range, CallError> {
     let allocated = space.allocate_constraint(Global, request);
-    let details = || in_the_way(request, space.conflict(request));
+    let details = || no_range(request, space);
     answered(allocated, wants_details, details)
 }
 
@@ -38,7 +39,7 @@ fn move_by(
 
 /// Returns the part of the space that begins at `address`, or one address outside the space if there is
 /// none.
-fn at_or_above(space: &AddressAllocator, address: u64) -> Answer<RangeInclusive> {
+pub(crate) fn at_or_above(space: &AddressAllocator, address: u64) -> Answer<RangeInclusive> {
     RangeInclusive::new(space.base().max(address), space.end().max(address))
 }
 
@@ -121,6 +122,18 @@ calls! {
     reads dvs_gap_at(space: In<dvs_address_allocator>, address: u64) -> gap: dvs_range {
         found(space.gap_at(address))?
     }
+    reads dvs_range_list(
+        space: In<dvs_address_allocator>, from: u64, ranges: *mut dvs_range, capacity: usize
+    ) -> count: usize {
+        // SAFETY: the array is as the header requires.
+        unsafe { fill(space.held_ranges_in(&at_or_above(space, from)?), ranges, capacity) }?
+    }
+    reads dvs_gap_list(
+        space: In<dvs_address_allocator>, from: u64, gaps: *mut dvs_range, capacity: usize
+    ) -> count: usize {
+        // SAFETY: the array is as the header requires.
+        unsafe { fill(space.gaps_in(&at_or_above(space, from)?), gaps, capacity) }?
+    }
     reads dvs_address_allocator_space(space: In<dvs_address_allocator>) -> ends: dvs_range {
         space.space().into()
     }
@@ -133,6 +146,9 @@ calls! {
         let freed = space.free(&range);
         answered::<(), ()>(freed, refusal.is_some(), || not_freed(space, &range))?
     }
+    reads dvs_range_peek(space: In<dvs_address_allocator>; request) -> range: dvs_range [refusal] {
+        answered(space.peek(request), refusal.is_some(), || no_range(request, space))?
+    }
     changes dvs_range_allocate(space: In<dvs_address_allocator>; request)
         -> range: dvs_range [refusal] {
         allocate(space, request, refusal.is_some())?
@@ -141,7 +157,7 @@ calls! {
         -> moved: dvs_range [refusal] {
         move_by(space, &range.try_into()?, request, refusal.is_some())?
     }
-    reads dvs_range_conflict(space: In<dvs_address_allocator>; request) -> found: dvs_refusal {
+    reads dvs_range_conflict(space: In<dvs_address_allocator>; request) -> conflict: dvs_refusal {
         in_the_way(request, space.conflict(request)).unwrap_or_default()
     }
 }

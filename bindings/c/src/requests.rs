@@ -5,8 +5,8 @@ use crate::proved::vm_addresses::{
     AddressAllocator, AllocPolicy, Conflict, Constraint, Error, RangeInclusive, Result as Answer,
 };
 use crate::status::{
-    DVS_CAUSE_ALLOCATED, DVS_CAUSE_OUTSIDE_SPACE, DVS_CAUSE_OUTSIDE_WINDOW, DVS_INVALID_POLICY,
-    DVS_INVALID_STATE_TRANSITION, DVS_RESOURCE_NOT_AVAILABLE,
+    DVS_CAUSE_ALLOCATED, DVS_CAUSE_NO_FIT, DVS_CAUSE_OUTSIDE_SPACE, DVS_CAUSE_OUTSIDE_WINDOW,
+    DVS_INVALID_POLICY, DVS_INVALID_STATE_TRANSITION, DVS_RESOURCE_NOT_AVAILABLE,
 };
 use crate::{dvs_range, dvs_refusal, CallError};
 
@@ -86,6 +86,19 @@ pub(crate) fn in_the_way(request: Constraint, conflict: Option<Conflict>) -> Opt
         Conflict::Allocated(held) => (DVS_CAUSE_ALLOCATED, held),
     };
     Some(because_of(cause, request, other.into()))
+}
+
+/// Returns the details of a request that gets no range: what is in the way of it, or the longest gap of its window.
+pub(crate) fn no_range(request: Constraint, space: &AddressAllocator) -> Option<dvs_refusal> {
+    in_the_way(request, space.conflict(request)).or_else(|| {
+        let window = request.window().unwrap_or(space.space());
+        let none = dvs_range { start: 1, end: 0 };
+        Some(dvs_refusal {
+            other: space.longest_gap_in(&window).map_or(none, Into::into),
+            cause: DVS_CAUSE_NO_FIT,
+            ..dvs_refusal::default()
+        })
+    })
 }
 
 /// Returns the details of a range that cannot be freed, which are those of a request for this range.

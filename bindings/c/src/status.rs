@@ -13,9 +13,10 @@ pub type dvs_status = u32;
 type Row = (u32, &'static str, &'static str);
 
 /// The row of any other number.
-static UNKNOWN: Row = (0, "unknown\0", "Unknown number.\0");
+static UNKNOWN: Row = (0, "unknown\0", "Unknown number\0");
 
-/// Defines the numbers of an `enum` of the header. The comment of each there begins with its text.
+/// Defines the numbers of an `enum` of the header. The comment of each there begins with its text, but that of no
+/// cause, which has an empty text.
 macro_rules! numbers {
     ($table:ident: $($name:ident = $number:literal, $text:literal;)+) => {
         $(pub(crate) const $name: u32 = $number;)+
@@ -26,34 +27,37 @@ macro_rules! numbers {
 }
 
 numbers! { STATUSES:
-    DVS_OK = 0, "The call succeeded.";
-    DVS_OVERFLOW = 1, "A range would end at or past UINT64_MAX, too few ids up to UINT32_MAX are free, or too many ranges are allocated.";
-    DVS_OUT_OF_RANGE = 2, "The id is outside the range of the allocator.";
-    DVS_ALREADY_RELEASED = 3, "The id is already freed.";
-    DVS_NEVER_ALLOCATED = 4, "The id was never allocated, or no device has it.";
-    DVS_RESOURCE_NOT_AVAILABLE = 5, "No free range or id fits, or the given range, id or address is allocated, not found or out of order.";
-    DVS_INVALID_RANGE = 6, "The start of a range is past its end, or the range has all 2^64 addresses.";
-    DVS_INVALID_ALIGNMENT = 7, "The alignment is not a power of two.";
-    DVS_OVERLAP = 8, "Two ranges share an address.";
-    DVS_INVALID_STATE_TRANSITION = 9, "Exactly the requested range is already allocated.";
-    DVS_UNALIGNED_ADDRESS = 10, "The requested start is not a multiple of the alignment.";
-    DVS_UNDERFLOW = 11, "The size of a space is 0.";
-    DVS_INVALID_SIZE = 12, "The size of a requested range is 0.";
-    DVS_OUT_OF_MEMORY = 13, "Memory ran out.";
-    DVS_NULL = 14, "A pointer that must not be null is null.";
-    DVS_BUSY = 15, "The object is being visited, so it cannot be changed or destroyed.";
-    DVS_NOT_JSON = 16, "The text is not JSON.";
-    DVS_NOT_A_STATE = 17, "The text is JSON, but does not encode an object of the type.";
-    DVS_INVALID_POLICY = 18, "The policy of a request is not one of the constants.";
-    DVS_LIMIT_EXCEEDED = 19, "The text is longer or nested deeper than the caller allows.";
+    DVS_OK = 0, "The call succeeded";
+    DVS_OVERFLOW = 1, "A range would end at or past UINT64_MAX, too few ids up to UINT32_MAX are free, or too many ranges are allocated";
+    DVS_OUT_OF_RANGE = 2, "The id is outside the range of the allocator";
+    DVS_ALREADY_RELEASED = 3, "The id is already freed";
+    DVS_NEVER_ALLOCATED = 4, "The id was never allocated, or no device has it";
+    DVS_RESOURCE_NOT_AVAILABLE = 5, "No free range or id fits, or the given range, id or address is allocated, not found or out of order";
+    DVS_INVALID_RANGE = 6, "The start of a range is past its end, or the range has all 2^64 addresses";
+    DVS_INVALID_ALIGNMENT = 7, "The alignment is not a power of two";
+    DVS_OVERLAP = 8, "Two ranges share an address";
+    DVS_INVALID_STATE_TRANSITION = 9, "Exactly the requested range is already allocated";
+    DVS_UNALIGNED_ADDRESS = 10, "The requested start is not a multiple of the alignment";
+    DVS_UNDERFLOW = 11, "The size of a space is 0";
+    DVS_INVALID_SIZE = 12, "The size of a requested range is 0";
+    DVS_OUT_OF_MEMORY = 13, "Memory ran out";
+    DVS_NULL = 14, "A pointer that must not be null is null";
+    DVS_BUSY = 15, "The object is being visited, so it cannot be changed or destroyed";
+    DVS_NOT_JSON = 16, "The text is not JSON";
+    DVS_NOT_A_STATE = 17, "The text is JSON, but does not encode an object of the type";
+    DVS_INVALID_POLICY = 18, "The policy of a request is not one of the constants";
+    DVS_LIMIT_EXCEEDED = 19, "The text is longer or nested deeper than the caller allows";
 }
 
 numbers! { CAUSES:
-    DVS_CAUSE_NONE = 0, "There is no cause.";
-    DVS_CAUSE_ALLOCATED = 1, "An address is allocated.";
-    DVS_CAUSE_OUTSIDE_SPACE = 2, "An address is outside the space.";
-    DVS_CAUSE_OUTSIDE_WINDOW = 3, "An address is outside the window of the request.";
-    DVS_CAUSE_EARLIER_REQUEST = 4, "An address is in the range of an earlier request of the same call.";
+    DVS_CAUSE_NONE = 0, "";
+    DVS_CAUSE_ALLOCATED = 1, "An address is allocated";
+    DVS_CAUSE_OUTSIDE_SPACE = 2, "An address is outside the space";
+    DVS_CAUSE_OUTSIDE_WINDOW = 3, "An address is outside the window of the request";
+    DVS_CAUSE_EARLIER_REQUEST = 4, "An address is in the range of an earlier request of the same call";
+    DVS_CAUSE_NOT_AFTER = 5, "The range does not start after the end of the range before it";
+    DVS_CAUSE_ENDS_AT_MAX = 6, "The range ends at UINT64_MAX";
+    DVS_CAUSE_NO_FIT = 7, "No gap of the window fits the request";
 }
 
 /// The details of an error.
@@ -170,13 +174,18 @@ fn row(table: &'static [Row], number: u32) -> &'static Row {
 }
 
 #[unsafe(no_mangle)]
-pub extern "C" fn dvs_status_name(status: u32) -> *const c_char {
+pub extern "C" fn dvs_status_name(status: dvs_status) -> *const c_char {
     row(STATUSES, status).1.as_ptr().cast()
 }
 
 #[unsafe(no_mangle)]
-pub extern "C" fn dvs_status_text(status: u32) -> *const c_char {
+pub extern "C" fn dvs_status_text(status: dvs_status) -> *const c_char {
     row(STATUSES, status).2.as_ptr().cast()
+}
+
+/// Returns the text of a status.
+pub(crate) fn text_of(status: dvs_status) -> &'static str {
+    row(STATUSES, status).2.trim_end_matches('\0')
 }
 
 #[unsafe(no_mangle)]

@@ -133,7 +133,8 @@ static const struct step on_space[] = {
     {LIST, {0}, FAILS(DVS_INVALID_POLICY)},
     {MOVE_REQUEST, {2, 1}, FAILS(DVS_INVALID_POLICY)},
     {CONFLICT, {0}, ENDS(DVS_INVALID_POLICY)},
-    {FIRST, {0x1001, 1}, NO_PLACE},
+    {PEEK_RANGE, {0}, FAILS(DVS_INVALID_POLICY)},
+    {FIRST, {0x1001, 1}, NO_FIT(0x1000, 0x1fff)},
     {FIRST, {0x100, 0x100}, GETS(0x1000, 0x10ff)},
     {LAST, {0x10, 0x100}, GETS(0x1f00, 0x1f0f)},
     {EXACT, {0x10, 1, 0x1801}, GETS(0x1801, 0x1810)},
@@ -477,6 +478,9 @@ static void reserve_given_ids(void) {
     CHECK(refusal.cause == DVS_CAUSE_ALLOCATED && is_range(refusal.other, 0, 7));
     CHECK(dvs_device_reserve_with_id(manager, 7, UINT32_MAX, &one, &device, NULL) == DVS_OK);
     CHECK(device.id == 8 && is_range(device.range, 8, 15));
+    /* divsharun.h: "Those of dvs_range_allocate() from DVS_INVALID_POLICY to DVS_INVALID_RANGE. -
+     * DVS_NEVER_ALLOCATED, with the id, if no device has it. - The other errors of
+     * dvs_range_move_request(), in the same order." */
     CHECK(dvs_device_move(manager, 8, &held, &device.range, &refusal) ==
           DVS_RESOURCE_NOT_AVAILABLE);
     CHECK(refusal.cause == DVS_CAUSE_ALLOCATED && is_range(refusal.other, 0, 7));
@@ -544,11 +548,15 @@ static void use_objects(void) {
 
 /* Gives null for the object, for each result, and for the other pointers. */
 static void give_null(void) {
-    static const int with_pointers[] = {
-        WITH_RANGES,  WITH_FREE,    WITH_IDS,       READ_SPACE, REPAIR_SPACE,    READ_IDS,
-        READ_MANAGER, SPACE_WITHIN, REPAIR_WITHIN,  IDS_WITHIN, MANAGER_WITHIN,  MOVE_REQUEST,
-        REQUEST,      LIST,         CONFLICT,       RESERVE,    RESERVE_WITH_ID, DEVICE_CONFLICT,
-        EQUAL_SPACE,  EQUAL_IDS,    EQUAL_MANAGERS, EQUAL_MAPS, MAP_ALLOCATE,    MAP_MOVE};
+    static const int with_pointers[] = {WITH_RANGES,     WITH_FREE,      WITH_IDS,
+                                        READ_SPACE,      REPAIR_SPACE,   READ_IDS,
+                                        READ_MANAGER,    SPACE_WITHIN,   REPAIR_WITHIN,
+                                        IDS_WITHIN,      MANAGER_WITHIN, MOVE_REQUEST,
+                                        REQUEST,         LIST,           PEEK_RANGE,
+                                        CONFLICT,        RESERVE,        RESERVE_WITH_ID,
+                                        DEVICE_CONFLICT, EQUAL_SPACE,    EQUAL_IDS,
+                                        EQUAL_MANAGERS,  EQUAL_MAPS,     MAP_ALLOCATE,
+                                        MAP_MOVE};
     static const struct arguments none = {true, true, NULL,   NULL, NULL, NULL,
                                           NULL, 5,    {4, 1}, NULL, false};
     size_t i;
@@ -597,6 +605,11 @@ static void give_null(void) {
                                               NULL) == DVS_NULL &&
               made == NULL);
     }
+    CHECK(dvs_range_list((dvs_address_allocator *)objects[0], 0, NULL, 1, &results.length) ==
+          DVS_NULL);
+    CHECK(dvs_gap_list((dvs_address_allocator *)objects[0], 0, NULL, 1, &results.length) ==
+          DVS_NULL);
+    CHECK(dvs_range_map_list((dvs_range_map *)objects[3], 0, NULL, 1, &results.length) == DVS_NULL);
     dvs_text_destroy(NULL);
     use_objects();
 }
@@ -606,7 +619,7 @@ static int visited, visits;
 
 /* Returns the status of a query with zeros and an invalid request. */
 static dvs_status status_of_query(int call) {
-    if (call == CONFLICT || call == DEVICE_CONFLICT)
+    if (call == CONFLICT || call == DEVICE_CONFLICT || call == PEEK_RANGE)
         return DVS_INVALID_POLICY;
     return call == GAP_AT ? DVS_RESOURCE_NOT_AVAILABLE : DVS_OK;
 }
@@ -834,6 +847,8 @@ static const struct quick {
     {LONGEST_GAP, {0}, 0},
     {RANGE_AT, {NEAR(1)}, 0},
     {GAP_AT, {NEAR(2)}, 0},
+    {LIST_RANGES, {NEAR(2)}, 0},
+    {LIST_GAPS, {NEAR(2)}, 0},
     {CONFLICT, {0}, 0},
     {VISIT_IN, {NEAR(0), NEAR(3)}, 0},
     {GAPS_IN, {NEAR(0), NEAR(3)}, 0},
@@ -927,8 +942,8 @@ static clock_t time_quick(const struct quick *row, void *object, uint64_t count)
 /* divsharun.h: "Let k be the number of allocated ranges. Allocating, moving and freeing a range
  * takes time of the order of log k, and so do dvs_range_conflict(), dvs_range_is_allocated(),
  * dvs_range_at() and dvs_gap_at(). An alignment can make the search for a range visit more gaps. A
- * visit within a range or from an address takes time of the order of log k, plus the number of
- * allocated ranges and gaps up to where it ends." */
+ * visit or list within a range or from an address takes time of the order of log k, plus the number
+ * of allocated ranges and gaps up to where it ends." */
 
 /* Compares the shortest times in small and in large objects. A linear call takes a hundred times as
  * long. */
@@ -1042,6 +1057,8 @@ static const struct {
     {IDS_WITHIN, "{\"range_base\":4294967296}", DVS_NOT_A_STATE, 14, "range_base", "in its range"},
     {IDS_WITHIN, "{\"freed_ids\":{}}", DVS_NOT_A_STATE, 13, "freed_ids", "a list"},
     {IDS_WITHIN, "{\"freed_ids\":[6, 6]}", DVS_NOT_A_STATE, 17, "freed_ids", "ascend"},
+    {IDS_WITHIN, "{\"freed_ids\":[6,7,8,8]}", DVS_NOT_A_STATE, 20, "freed_ids", "ascend"},
+    {IDS_WITHIN, "{\"freed_ids\":[6,7,9,8]}", DVS_NOT_A_STATE, 20, "freed_ids", "ascend"},
     {IDS_WITHIN, SPACE_TEXT, DVS_NOT_A_STATE, 1, NULL, "unknown"},
     {MANAGER_WITHIN, SPACE_TEXT, DVS_NOT_A_STATE, 1, NULL, "unknown"},
     {MANAGER_WITHIN, "{\"\\u006dmio_allocatorx\":0}", DVS_NOT_A_STATE, 1, NULL, "unknown"},
@@ -1248,6 +1265,137 @@ static void read_again(void) {
 
 /* ---- Words ---- */
 
+/* divsharun.h: "It returns the length of the line, which is below 200, and writes at most `length`
+ * bytes with the zero byte, as snprintf() does. `buffer` can be null if `length` is 0." */
+static void say_numbers(void) {
+    static const struct {
+        dvs_status status;
+        dvs_range range, other;
+        uint32_t id, cause;
+        const char *text;
+    } rows[] = {
+        {DVS_RESOURCE_NOT_AVAILABLE,
+         {0xfeb00000, 0xfeb0ffff},
+         {0xfeb08000, 0xfeb0bfff},
+         0,
+         DVS_CAUSE_ALLOCATED,
+         "0xfeb00000-0xfeb0ffff overlaps 0xfeb08000-0xfeb0bfff"},
+        {DVS_INVALID_STATE_TRANSITION,
+         {0xfeb00000, 0xfeb0ffff},
+         {0xfeb00000, 0xfeb0ffff},
+         0,
+         DVS_CAUSE_ALLOCATED,
+         "0xfeb00000-0xfeb0ffff is already allocated"},
+        {DVS_RESOURCE_NOT_AVAILABLE,
+         {TOP, TOP},
+         {0, TOP - 1},
+         0,
+         DVS_CAUSE_OUTSIDE_SPACE,
+         "0xffffffffffffffff-0xffffffffffffffff is outside the space 0x0-0xfffffffffffffffe"},
+        {DVS_RESOURCE_NOT_AVAILABLE,
+         {0, 0},
+         {0xfeb08000, 0xfeb0bfff},
+         0,
+         DVS_CAUSE_OUTSIDE_SPACE,
+         "The range is outside the space 0xfeb08000-0xfeb0bfff"},
+        {DVS_RESOURCE_NOT_AVAILABLE,
+         {0xfeb00000, 0xfeb0ffff},
+         {0xfeb08000, 0xfeb0bfff},
+         0,
+         DVS_CAUSE_OUTSIDE_WINDOW,
+         "0xfeb00000-0xfeb0ffff is outside the window 0xfeb08000-0xfeb0bfff"},
+        {DVS_RESOURCE_NOT_AVAILABLE,
+         {0xfeb00000, 0xfeb0ffff},
+         {0, 0},
+         0,
+         DVS_CAUSE_EARLIER_REQUEST,
+         "0xfeb00000-0xfeb0ffff overlaps the range of an earlier request"},
+        {DVS_RESOURCE_NOT_AVAILABLE,
+         {0xfeb08000, 0xfeb0bfff},
+         {0xfeb00000, 0xfeb0ffff},
+         0,
+         DVS_CAUSE_NOT_AFTER,
+         "0xfeb08000-0xfeb0bfff does not start after 0xfeb00000-0xfeb0ffff"},
+        {DVS_OVERFLOW,
+         {TOP, TOP},
+         {0, 0},
+         0,
+         DVS_CAUSE_ENDS_AT_MAX,
+         "0xffffffffffffffff-0xffffffffffffffff ends at the last address"},
+        {DVS_RESOURCE_NOT_AVAILABLE,
+         {0, 0},
+         {0xfeb08000, 0xfeb0bfff},
+         0,
+         DVS_CAUSE_NO_FIT,
+         "No gap of the window fits; the longest is 0xfeb08000-0xfeb0bfff"},
+        {DVS_RESOURCE_NOT_AVAILABLE,
+         {0, 0},
+         {1, 0},
+         0,
+         DVS_CAUSE_NO_FIT,
+         "No address of the window is free"},
+        {DVS_INVALID_RANGE, {1, 0}, {0, 0}, 0, DVS_CAUSE_NONE, "0x1-0x0 is not a valid range"},
+        {DVS_OVERLAP,
+         {0xfeb00000, 0xfeb0ffff},
+         {0xfeb08000, 0xfeb0bfff},
+         0,
+         DVS_CAUSE_NONE,
+         "0xfeb00000-0xfeb0ffff overlaps 0xfeb08000-0xfeb0bfff"},
+        {DVS_OUT_OF_RANGE,
+         {0, 0},
+         {0, 0},
+         UINT32_MAX,
+         DVS_CAUSE_NONE,
+         "The id 4294967295 is outside the range of the allocator"},
+        {DVS_ALREADY_RELEASED, {0, 0}, {0, 0}, 7, DVS_CAUSE_NONE, "The id 7 is already freed"},
+        {DVS_NEVER_ALLOCATED,
+         {0, 0},
+         {0, 0},
+         0,
+         DVS_CAUSE_NONE,
+         "The id 0 was never allocated, or no device has it"},
+        {DVS_RESOURCE_NOT_AVAILABLE,
+         {0, 0},
+         {0, 0},
+         7,
+         DVS_CAUSE_NONE,
+         "The id 7 is allocated, not found or out of order"},
+        {DVS_UNDERFLOW, {0, 0}, {0, 0}, 0, DVS_CAUSE_NONE, "The size of a space is 0"},
+        /* A call that succeeds writes no details. */
+        {DVS_OK,
+         {0xfeb00000, 0xfeb0ffff},
+         {0xfeb08000, 0xfeb0bfff},
+         7,
+         DVS_CAUSE_ALLOCATED,
+         "The call succeeded"},
+        {STATUSES, {0, 0}, {0, 0}, 0, DVS_CAUSE_NONE, "Unknown number"},
+    };
+    size_t i, room;
+
+    for (i = 0; i < sizeof rows / sizeof rows[0]; i++) {
+        const dvs_refusal told = {rows[i].range, rows[i].other, 0, rows[i].id, rows[i].cause};
+        const char *const text = rows[i].text;
+        const size_t length = strlen(text);
+        char line[200], whole[200];
+
+        CHECK(dvs_refusal_text(rows[i].status, &told, NULL, 0) == length);
+        for (room = 0; room <= length + 2; room++) {
+            memset(line, UNTOUCHED, sizeof line);
+            CHECK(dvs_refusal_text(rows[i].status, &told, line, room) == length);
+            snprintf(whole, sizeof whole, "%.*s", room > 0 ? (int)room - 1 : 0, text);
+            CHECK(room == 0 || strcmp(line, whole) == 0);
+            CHECK(is_untouched(line + (room <= length ? room : length + 1),
+                               sizeof line - (room <= length ? room : length + 1)));
+        }
+    }
+    for (i = 0; i < STATUSES; i++) {
+        char line[200];
+
+        CHECK(dvs_refusal_text((dvs_status)i, NULL, line, sizeof line) < sizeof line);
+        CHECK(strcmp(line, dvs_status_text((dvs_status)i)) == 0);
+    }
+}
+
 static void say_words(void) {
     static const uint32_t unknown[] = {STATUSES, 99, 256, 65536, UINT32_MAX};
     char version[32];
@@ -1255,9 +1403,11 @@ static void say_words(void) {
 
     for (i = 0; i < sizeof unknown / sizeof unknown[0]; i++) {
         CHECK(strcmp(dvs_status_name(unknown[i]), "unknown") == 0);
-        CHECK(strcmp(dvs_status_text(unknown[i]), "Unknown number.") == 0);
-        CHECK(strcmp(dvs_cause_text(unknown[i]), "Unknown number.") == 0);
+        CHECK(strcmp(dvs_status_text(unknown[i]), "Unknown number") == 0);
+        CHECK(strcmp(dvs_cause_text(unknown[i]), "Unknown number") == 0);
     }
+    CHECK(dvs_cause_text(DVS_CAUSE_NONE)[0] == 0);
+    say_numbers();
     /* divsharun.h: "DVS_VERSION_NUMBER is 10000 * major + 100 * minor + patch." */
     sprintf(version, "%d.%d.%d", DVS_VERSION_MAJOR, DVS_VERSION_MINOR, DVS_VERSION_PATCH);
     CHECK(strcmp(version, DVS_VERSION_TEXT) == 0 && strcmp(version, dvs_version_text()) == 0);

@@ -90,17 +90,19 @@ static void refuse_ranges(void) {
         uint64_t start, end;
         dvs_status status;
         size_t failed;
+        uint32_t cause;
+        dvs_range other;
     } rows[] = {
-        {0, 0, 5, 4, DVS_INVALID_RANGE, 1},
-        {0, 0, 5, 5, DVS_UNDERFLOW, 2},
-        {2, UINT64_MAX, 5, 5, DVS_OVERFLOW, 2},
-        {0, 16, 3, 5, DVS_RESOURCE_NOT_AVAILABLE, 1},
-        {2, 16, 5, 5, DVS_RESOURCE_NOT_AVAILABLE, 0},
-        {0, 16, UINT64_MAX, UINT64_MAX, DVS_OVERFLOW, 1},
-        {0, 16, 15, 16, DVS_RESOURCE_NOT_AVAILABLE, 1},
-        {1, UINT64_MAX, 7, UINT64_MAX, DVS_OVERFLOW, 1},
-        {1, UINT64_MAX, 3, UINT64_MAX, DVS_RESOURCE_NOT_AVAILABLE, 1},
-        {0, 16, 15, UINT64_MAX, DVS_RESOURCE_NOT_AVAILABLE, 1},
+        {0, 0, 5, 4, DVS_INVALID_RANGE, 1, DVS_CAUSE_NONE, {0, 0}},
+        {0, 0, 5, 5, DVS_UNDERFLOW, 2, DVS_CAUSE_NONE, {0, 0}},
+        {2, UINT64_MAX, 5, 5, DVS_OVERFLOW, 2, DVS_CAUSE_NONE, {0, 0}},
+        {0, 16, 3, 5, DVS_RESOURCE_NOT_AVAILABLE, 1, DVS_CAUSE_NOT_AFTER, {1, 3}},
+        {2, 16, 5, 5, DVS_RESOURCE_NOT_AVAILABLE, 0, DVS_CAUSE_OUTSIDE_SPACE, {2, 17}},
+        {0, 16, UINT64_MAX, UINT64_MAX, DVS_OVERFLOW, 1, DVS_CAUSE_ENDS_AT_MAX, {0, 0}},
+        {0, 16, 15, 16, DVS_RESOURCE_NOT_AVAILABLE, 1, DVS_CAUSE_OUTSIDE_SPACE, {0, 15}},
+        {1, UINT64_MAX, 7, UINT64_MAX, DVS_OVERFLOW, 1, DVS_CAUSE_ENDS_AT_MAX, {0, 0}},
+        {1, UINT64_MAX, 3, UINT64_MAX, DVS_RESOURCE_NOT_AVAILABLE, 1, DVS_CAUSE_NOT_AFTER, {1, 3}},
+        {0, 16, 15, UINT64_MAX, DVS_RESOURCE_NOT_AVAILABLE, 1, DVS_CAUSE_OUTSIDE_SPACE, {0, 15}},
     };
     /* None, or one that is wrong too. */
     static const dvs_range third[] = {{0, 0}, {9, 8}, {30, 40}};
@@ -110,7 +112,8 @@ static void refuse_ranges(void) {
     for (i = 0; i < 3 * sizeof rows / sizeof rows[0]; i++) {
         const struct row *row = &rows[i / 3];
         const bool is_second = row->status == DVS_INVALID_RANGE,
-                   is_third = i % 3 == 1 && !is_second;
+                   is_third = i % 3 == 1 && !is_second,
+                   has_cause = !is_third && row->cause != DVS_CAUSE_NONE;
         dvs_address_allocator *const before = (dvs_address_allocator *)&none, *space = before;
         dvs_refusal refusal;
         dvs_range held[3];
@@ -127,10 +130,15 @@ static void refuse_ranges(void) {
         CHECK(is_range(refusal.range,
                        is_third    ? 9
                        : is_second ? 5
+                       : has_cause ? held[row->failed].start
                                    : 0,
                        is_third    ? 8
                        : is_second ? 4
+                       : has_cause ? held[row->failed].end
                                    : 0));
+        CHECK(refusal.cause == (has_cause ? row->cause : (uint32_t)DVS_CAUSE_NONE));
+        CHECK(is_range(refusal.other, has_cause ? row->other.start : 0,
+                       has_cause ? row->other.end : 0));
     }
 }
 
@@ -170,12 +178,13 @@ static void refuse_free(void) {
         {{{5, 4}, {1, 3}}, 2, DVS_INVALID_RANGE, 0, {5, 4}},
         {{{5, 9}, {1, 0}}, 2, DVS_INVALID_RANGE, 1, {1, 0}},
         {{{5, 9}, {5, 9}}, 0, DVS_UNDERFLOW, 0, {0, 0}},
-        {{{5, 9}, {9, 12}}, 2, DVS_RESOURCE_NOT_AVAILABLE, 1, {0, 0}},
-        {{{5, 9}, {1, 3}}, 2, DVS_RESOURCE_NOT_AVAILABLE, 1, {0, 0}},
+        {{{5, 9}, {9, 12}}, 2, DVS_RESOURCE_NOT_AVAILABLE, 1, {9, 12}},
+        {{{5, 9}, {1, 3}}, 2, DVS_RESOURCE_NOT_AVAILABLE, 1, {1, 3}},
         {{{0, 9}, {11, UINT64_MAX}}, 2, DVS_INVALID_RANGE, 2, {0, UINT64_MAX}},
         {{{5, 9}, {9, 12}, {4, 3}}, 3, DVS_INVALID_RANGE, 2, {4, 3}},
-        {{{5, 9}, {9, 12}, {1, 3}}, 3, DVS_RESOURCE_NOT_AVAILABLE, 1, {0, 0}},
-        {{{0, 9}, {9, 12}, {20, UINT64_MAX}}, 3, DVS_RESOURCE_NOT_AVAILABLE, 1, {0, 0}},
+        {{{5, 9}, {9, 12}, {1, 3}}, 3, DVS_RESOURCE_NOT_AVAILABLE, 1, {9, 12}},
+        {{{0, 9}, {9, 12}, {20, UINT64_MAX}}, 3, DVS_RESOURCE_NOT_AVAILABLE, 1, {9, 12}},
+        {{{0, 4}, {9, 12}, {11, 13}}, 3, DVS_RESOURCE_NOT_AVAILABLE, 2, {11, 13}},
     };
     size_t i;
 
@@ -186,8 +195,16 @@ static void refuse_free(void) {
 
         CHECK(dvs_address_allocator_with_free(rows[i].parts, rows[i].count, &space, &failed,
                                               &refusal) == rows[i].status);
-        CHECK(space == NULL && failed == rows[i].failed && refusal.cause == DVS_CAUSE_NONE);
+        CHECK(space == NULL && failed == rows[i].failed);
         CHECK(is_range(refusal.range, rows[i].told.start, rows[i].told.end));
+        if (rows[i].status == DVS_RESOURCE_NOT_AVAILABLE) {
+            const dvs_range before = rows[i].parts[failed - 1];
+
+            CHECK(refusal.cause == DVS_CAUSE_NOT_AFTER);
+            CHECK(is_range(refusal.other, before.start, before.end));
+        } else {
+            CHECK(refusal.cause == DVS_CAUSE_NONE && is_range(refusal.other, 0, 0));
+        }
     }
 }
 
@@ -354,6 +371,60 @@ static void visit_from(const dvs_address_allocator *space, uint64_t address, vis
     CHECK(above.count == ups && below.count == downs);
 }
 
+/* divsharun.h: "If `count` is less than `capacity`, there are no more."
+ * divsharun.h: "Only a gap can end at UINT64_MAX, and is the last one then." */
+
+typedef dvs_status list_some(const dvs_address_allocator *space, uint64_t from, dvs_range *ranges,
+                             size_t capacity, size_t *count);
+
+/* Compares lists of each length with the visit from an address. */
+static void list_from(const dvs_address_allocator *space, uint64_t address, visit_at *up,
+                      list_some *list) {
+    struct seen above = all_of();
+    dvs_range ranges[MOST];
+    size_t capacity, count, i;
+
+    CHECK(up(space, address, see_range, &above) == DVS_OK);
+    for (capacity = 0; capacity <= above.count + 1; capacity++) {
+        memset(ranges, 0, sizeof ranges);
+        CHECK(list(space, address, capacity == 0 ? NULL : ranges, capacity, &count) == DVS_OK);
+        CHECK(count == (capacity < above.count ? capacity : above.count));
+        for (i = 0; i <= count; i++)
+            CHECK(is_range(ranges[i], i < count ? above.ranges[i].start : 0,
+                           i < count ? above.ranges[i].end : 0));
+    }
+}
+
+/* The values are the starts. */
+static void list_map(void) {
+    static const dvs_range held[] = {{2, 4}, {5, 9}, {20, HALF}};
+    dvs_valued_range found[4];
+    dvs_range_map *map;
+    size_t count, capacity, first, i;
+    uint64_t from;
+
+    CHECK(dvs_range_map_new(0, UINT64_MAX, &map) == DVS_OK);
+    for (i = 3; i-- > 0;) {
+        const dvs_request request = {
+            held[i].end - held[i].start + 1, 1, held[i].start, DVS_EXACT, 0, 0};
+        dvs_range range;
+
+        CHECK(dvs_range_map_allocate(map, held[i].start, &request, &range, NULL) == DVS_OK);
+    }
+    for (from = 0; from < 24; from++)
+        for (capacity = 0; capacity <= 4; capacity++) {
+            first = from <= 4 ? 0 : from <= 9 ? 1 : 2;
+            CHECK(dvs_range_map_list(map, from, found, capacity, &count) == DVS_OK);
+            CHECK(count == (capacity < 3 - first ? capacity : 3 - first));
+            for (i = 0; i < count; i++)
+                CHECK(is_range(found[i].range, held[first + i].start, held[first + i].end) &&
+                      found[i].value == held[first + i].start);
+        }
+    CHECK(dvs_range_map_list(map, HALF + 1, found, 4, &count) == DVS_OK && count == 0);
+    CHECK(dvs_range_map_list(map, UINT64_MAX, NULL, 0, &count) == DVS_OK && count == 0);
+    dvs_range_map_destroy(map);
+}
+
 /* Visits from and between the ends of each range, the addresses next to them, and the ends of all.
  */
 static void visit_from_addresses(void) {
@@ -374,6 +445,8 @@ static void visit_from_addresses(void) {
             visit_from(space, addresses[j], dvs_range_visit, dvs_range_visit_from,
                        dvs_range_visit_back);
             visit_from(space, addresses[j], dvs_gap_visit, dvs_gap_visit_from, dvs_gap_visit_back);
+            list_from(space, addresses[j], dvs_range_visit_from, dvs_range_list);
+            list_from(space, addresses[j], dvs_gap_visit_from, dvs_gap_list);
             for (k = 0; k < sizeof addresses / sizeof addresses[0]; k++) {
                 dvs_range within = range_of(addresses[j], addresses[k]);
 
@@ -775,6 +848,7 @@ int main(void) {
     visit_gaps();
     refuse_parts();
     visit_from_addresses();
+    list_map();
     nest_visits();
     allocate_all();
     allocate_in_windows();

@@ -16,7 +16,7 @@ enum {
     READ_IDS, READ_MANAGER, SPACE_WITHIN, REPAIR_WITHIN, IDS_WITHIN, MANAGER_WITHIN,
 
     FIRST, LAST, EXACT, MOVE, MOVE_REQUEST, REQUEST, LIST, FREE, DESTROY_SPACE,
-    SPACE, IS_ALLOCATED, COUNT, GAP_COUNT, FREE_LENGTH, LONGEST_GAP, RANGE_AT, GAP_AT, CONFLICT, EQUAL_SPACE, COPY_SPACE, SAVE_SPACE,
+    SPACE, IS_ALLOCATED, COUNT, GAP_COUNT, FREE_LENGTH, LONGEST_GAP, RANGE_AT, GAP_AT, LIST_RANGES, LIST_GAPS, PEEK_RANGE, CONFLICT, EQUAL_SPACE, COPY_SPACE, SAVE_SPACE,
     VISIT, VISIT_GAPS, VISIT_IN, GAPS_IN, VISIT_FROM, VISIT_BACK, GAPS_FROM, GAPS_BACK,
 
     ID, ID_IN, IDS, ID_EXACT, FREE_ID, DESTROY_IDS,
@@ -27,7 +27,7 @@ enum {
     VISIT_DEVICES,
 
     MAP_ALLOCATE, MAP_MOVE, MAP_FREE, MAP_SET, DESTROY_MAP,
-    MAP_GET, MAP_COUNT, MAP_SPACE, EQUAL_MAPS, COPY_MAP,
+    MAP_GET, LIST_MAP, MAP_COUNT, MAP_SPACE, EQUAL_MAPS, COPY_MAP,
     VISIT_MAP,
     CALLS
 };
@@ -183,6 +183,9 @@ static dvs_status make_call(int call, void *object, const uint64_t *n) {
         CASE(LONGEST_GAP, dvs_longest_gap(seen_space, to_number));
         CASE(RANGE_AT, dvs_range_at(seen_space, n[0], to));
         CASE(GAP_AT, dvs_gap_at(seen_space, n[0], to));
+        CASE(LIST_RANGES, dvs_range_list(seen_space, n[0], results.ranges, 1, TO(results.length)));
+        CASE(LIST_GAPS, dvs_gap_list(seen_space, n[0], results.ranges, 1, TO(results.length)));
+        CASE(PEEK_RANGE, dvs_range_peek(seen_space, given.request, to, REFUSAL));
         CASE(CONFLICT, dvs_range_conflict(seen_space, given.request, to_conflict));
         CASE(EQUAL_SPACE, dvs_address_allocator_equal(seen_space, other_space, to_flag));
         CASE(COPY_SPACE, dvs_address_allocator_copy(seen_space, to_space));
@@ -238,6 +241,7 @@ static dvs_status make_call(int call, void *object, const uint64_t *n) {
         CASE(MAP_SET, dvs_range_map_set(map, n[0], n[1], to_number));
         CASE(DESTROY_MAP, dvs_range_map_destroy(map));
         CASE(MAP_GET, dvs_range_map_get(seen_map, n[0], TO(results.found)));
+        CASE(LIST_MAP, dvs_range_map_list(seen_map, n[0], &results.found, 1, TO(results.length)));
         CASE(MAP_COUNT, dvs_range_map_count(seen_map, to_number));
         CASE(MAP_SPACE, dvs_range_map_space(seen_map, to));
         CASE(EQUAL_MAPS, dvs_range_map_equal(seen_map, other_map, to_flag));

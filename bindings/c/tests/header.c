@@ -113,7 +113,36 @@ static void keep_pointers(void) {
         dvs_range_map_destroy(map);
 }
 
+static void print_ranges(const dvs_address_allocator *mmio) {
+    dvs_range ranges[64];
+    uint64_t from = 0;
+    size_t count, i;
+
+    do {
+        if (dvs_range_list(mmio, from, ranges, 64, &count) != DVS_OK)
+            return;
+        for (i = 0; i < count; i++) {
+            printf("%#jx\n", (uintmax_t)ranges[i].start);
+            from = ranges[i].end + 1;
+        }
+    } while (count == 64);
+}
+
+/* 130 ranges of one address. */
+static void print_many(void) {
+    dvs_address_allocator *mmio;
+    dvs_range range;
+    int i;
+
+    CHECK(dvs_address_allocator_new(0, 256, &mmio) == DVS_OK);
+    for (i = 0; i < 130; i++)
+        CHECK(dvs_range_allocate_first(mmio, 1, 1, &range, NULL) == DVS_OK);
+    print_ranges(mmio);
+    dvs_address_allocator_destroy(mmio);
+}
+
 int main(void) {
+    print_many();
     CHECK(allocate_bar() == 0);
     free_lowest();
     read_saved();

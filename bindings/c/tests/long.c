@@ -83,8 +83,8 @@ static struct outcome blocked(const struct model *model, const dvs_request *requ
 /* Returns the outcome of a request, by a search of all addresses from the last one. */
 static struct outcome searched(const struct model *model, const dvs_request *request) {
     const dvs_range window = range_of(request->low, request->high == 0 ? TOP : request->high);
-    struct outcome found = NO_PLACE;
-    uint64_t start, run = 0;
+    struct outcome found = NO_FIT(1, 0);
+    uint64_t start, run = 0, longest = 1;
 
     for (start = BASE + WIDTH; start-- > BASE;) {
         const struct outcome place = GETS(start, start + request->size - 1);
@@ -92,6 +92,10 @@ static struct outcome searched(const struct model *model, const dvs_request *req
             !model->taken[start - BASE] && window.start <= start && start <= window.end;
 
         run = is_free ? run + 1 : 0;
+        if (found.status != DVS_OK && run >= longest) {
+            longest = run;
+            found.other = range_of(start, start + run - 1);
+        }
         if (run >= request->size && start % request->alignment == 0 &&
             (request->policy != DVS_EXACT || start == request->start) &&
             (request->policy != DVS_LAST || found.status != DVS_OK))
@@ -104,6 +108,13 @@ static struct outcome searched(const struct model *model, const dvs_request *req
         found.other = range_of(BASE, BASE + WIDTH - 1);
     }
     return found;
+}
+
+/* Returns the outcome of a call that does not look for the longest gap. */
+static struct outcome without_gap(struct outcome outcome) {
+    static const struct outcome no_place = NO_PLACE;
+
+    return outcome.cause == DVS_CAUSE_NO_FIT ? no_place : outcome;
 }
 
 static dvs_range random_window(void) {
@@ -196,6 +207,7 @@ static void move(dvs_address_allocator *space, struct model *model, dvs_request 
             put(model, outcome.range.start, request->size, true);
         else
             put(model, from.start, size, true);
+        outcome = without_gap(outcome);
     }
     prepare();
     CHECK(has_outcome(&outcome,
@@ -260,11 +272,14 @@ static void query_space(const dvs_address_allocator *space, const struct model *
     CHECK(is_allocated == is_held(model, range));
     CHECK((dvs_range_at(space, range.end, &at) == DVS_OK) == model->taken[range.end - BASE]);
     CHECK((dvs_gap_at(space, range.end, &at) == DVS_OK) != model->taken[range.end - BASE]);
+    CHECK(dvs_range_peek(space, &request, &at, NULL) == outcome.status);
+    CHECK(outcome.status != DVS_OK || is_range(at, outcome.range.start, outcome.range.end));
     CHECK(dvs_range_conflict(space, &request, &conflict) == DVS_OK);
     if (outcome.status == DVS_OK)
         CHECK(memcmp(&conflict, &none, sizeof none) == 0);
     else
-        CHECK(conflict.cause == outcome.cause && conflict.other.start == outcome.other.start);
+        CHECK(conflict.cause == without_gap(outcome).cause &&
+              conflict.other.start == without_gap(outcome).other.start);
     check_met(dvs_range_visit_in(space, window, meet, NULL, NULL), model, false, window.start,
               window.end, false);
     check_met(dvs_gap_visit_in(space, window, meet, NULL, NULL), model, true, window.start,

@@ -45,13 +45,13 @@ static void fill(void) {
     hold(power + 1);
     for (i = 0; i < 300; i++)
         CHECK(dvs_id_allocate(results.ids, &id) == DVS_OK);
-    /* The runs of freed ids fill a chunk of 64. The next one needs memory. */
+    /* The runs of freed ids fill a leaf of 64. The next one needs memory. */
     for (id = 2; id <= 128; id += 2)
         CHECK(dvs_id_free(results.ids, id, NULL) == DVS_OK);
-    /* A leaf of 31 ranges and a gap. */
-    for (i = 0; i < 31; i++)
+    /* A leaf of 30 ranges and a gap. The lists of devices have memory for one more. */
+    for (i = 0; i < 30; i++)
         CHECK(dvs_device_reserve_first(results.manager, 1, 1, &device, NULL) == DVS_OK);
-    /* The values fill a chunk of 64. */
+    /* The values fill a leaf of 64. */
     for (i = 0; i < 64; i++)
         CHECK(dvs_range_map_allocate(results.map, i, &lowest, &device.range, NULL) == DVS_OK);
 }

@@ -97,6 +97,12 @@ struct outcome {
     }
 #define FAILS(status) TELLS(status, 0, 0)
 #define NO_PLACE FAILS(DVS_RESOURCE_NOT_AVAILABLE)
+#define NO_FIT(start, end)                                                                         \
+    {                                                                                              \
+        DVS_RESOURCE_NOT_AVAILABLE, {0, 0}, 0, DVS_CAUSE_NO_FIT, {                                 \
+            start, end                                                                             \
+        }                                                                                          \
+    }
 #define IN_THE_WAY(start, end, cause, from, to)                                                    \
     {                                                                                              \
         DVS_RESOURCE_NOT_AVAILABLE, {start, end}, 0, DVS_CAUSE_##cause, {                          \

@@ -56,7 +56,7 @@ static void allocate() {
     CHECK(!space.allocate_exact(0x10, 1, 0x1200, range));
     std::error_code again = space.allocate_exact(0x10, 1, 0x1200, range);
     CHECK(again == dvs::error(DVS_INVALID_STATE_TRANSITION));
-    CHECK(again.message() == "Exactly the requested range is already allocated.");
+    CHECK(again.message() == "Exactly the requested range is already allocated");
     CHECK(std::string(again.category().name()) == "divsharun");
     CHECK(again.category() == category_of_second_file());
     CHECK(ranges_of(space).size() == 3 && is_range(ranges_of(space)[1], 0x1200, 0x120f));
@@ -313,6 +313,8 @@ static void keep_values() {
     CHECK(other != map && !map.move({24, 31}, request::first(8, 8), range) && range.start == 0);
     CHECK(!map.allocate(9, request::first(8, 8), range) && !map.range_count(number) && number == 2);
     CHECK(!map.ranges(all) && all.size() == 2 && all[0].value == 7 && all[1].value == 9);
+    std::size_t listed = 0;
+    CHECK(!map.list_ranges(8, &found, 1, listed) && listed == 1 && found.value == 9);
     CHECK(!map.for_each([&](dvs_valued_range one) {
         CHECK(one.value == 7 && map.free(one.range, number) == DVS_BUSY);
         return false;
@@ -618,7 +620,12 @@ static void compare_errors() {
     }
     CHECK(dvs::error() == dvs::error(DVS_OK) && !dvs::error());
     CHECK(failure.name() == std::string("DVS_OVERFLOW"));
-    CHECK(dvs::text_of(dvs::cause::allocated) == std::string("An address is allocated."));
+    CHECK(dvs::text_of(dvs::cause::allocated) == std::string("An address is allocated"));
+    const dvs_refusal refusal = {range_of(0xfeb00000, 0xfeb0ffff), range_of(1, 2), 0, 0,
+                                 DVS_CAUSE_ALLOCATED};
+    CHECK(dvs::text_of(dvs::error(DVS_RESOURCE_NOT_AVAILABLE), refusal) ==
+          "0xfeb00000-0xfeb0ffff overlaps 0x1-0x2");
+    CHECK(dvs::text_of(failure, refusal) == std::string("0xfeb00000-0xfeb0ffff overlaps 0x1-0x2"));
     CHECK(space.make(UINT64_MAX, 1) == DVS_OK);
     std::error_code plain = failure;
     CHECK(plain == failure && plain.message() == dvs_status_text(DVS_OVERFLOW));
@@ -642,6 +649,12 @@ static void ask() {
     CHECK(space.read(text) == DVS_NOT_A_STATE && ranges_of(space).size() == 1);
     CHECK(!space.read_repaired(text) && ranges_of(space).empty());
     CHECK(!space.make_with_held(0, 16, {range_of(1, 2)}));
+    CHECK(!space.peek(dvs::request::last(2, 2), range) && is_range(range, 14, 15));
+    CHECK(space.peek(dvs::request::first(14, 1), range) && is_range(range, 14, 15));
+    dvs_range listed[3];
+    std::size_t length = 0;
+    CHECK(!space.list_ranges(2, listed, 3, length) && length == 1 && is_range(listed[0], 1, 2));
+    CHECK(!space.list_gaps(1, listed, 3, length) && length == 1 && is_range(listed[0], 3, 15));
     CHECK(!space.is_allocated({1, 2}, is_allocated) && is_allocated &&
           !space.is_allocated({1, 1}, is_allocated) && !is_allocated);
     CHECK(space.is_allocated({2, 1}, is_allocated) == DVS_INVALID_RANGE);

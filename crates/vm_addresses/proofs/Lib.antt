@@ -3,6 +3,7 @@ pub mod Choosing
 pub mod Comparing
 pub mod Counts
 pub mod Moving
+pub mod Peeking
 pub mod Placing
 pub mod Reading
 pub mod Results

@@ -8,7 +8,9 @@ pub mod Values
 pub mod Checks
 pub mod Several
 pub mod Moves
+pub mod Peeks
 pub mod Conflicts
+pub mod ListConflicts
 pub mod Holes
 pub mod Histories
 pub mod Facts

@@ -1,5 +1,5 @@
 -- The gaps of a state, and the results of queries of addresses.
-use Rattle.std.specs.Prelude.{ℕ, ◌+◌, ◌-◌, max, List, [], ◌∷◌, ◌++◌, Option, Some, None}
+use Rattle.std.specs.Prelude.{ℕ, ◌+◌, ◌-◌, max, nat_lt, if◌then◌else◌, List, [], ◌∷◌, ◌++◌, Option, Some, None}
 use Rattle.std.specs.List.{Contains, filter}
 use Rattle.vm_ranges.specs.Range.{Range, IsIn, IsInNone, address_count}
 use Rattle.vm_ranges.specs.Address.{AddressState}
@@ -51,6 +51,20 @@ longest_part window (r ∷ rs) = max (common_count window r) (longest_part windo
 abbrev pub longest_in : Option Range → List Range → ℕ
 longest_in None ranges = longest_of ranges
 longest_in (Some window) ranges = longest_part window ranges
+
+-- The number of addresses of a range, or 0 if there is no range.
+abbrev pub count_if : Option Range → ℕ
+count_if None = 0
+count_if (Some r) = address_count r
+
+-- The part of the gap g in the window if it is longer than the range, otherwise the range.
+abbrev pub longer_part : Range → Option Range → Range → Option Range
+longer_part window longest g = if nat_lt (count_if longest) (common_count window g) then Some (common window g) else longest
+
+-- The lowest of the longest parts of the gaps in the window, if it is longer than the range, otherwise the range.
+abbrev pub longest_of_parts : Range → Option Range → List Range → Option Range
+longest_of_parts window longest [] = longest
+longest_of_parts window longest (g ∷ gs) = longest_of_parts window (longer_part window longest g) gs
 
 -- The number of addresses of all ranges together.
 abbrev pub count_of : List Range → ℕ

@@ -2,10 +2,12 @@
 //!
 //! - `allocation` allocates the range of a request, and `deallocation` frees an allocated range.
 //! - `several` allocates several ranges in one call, and `moving` moves an allocated range.
+//! - `peeking` returns the result of a request without a change.
 //! - `building` and `with_free` create an allocator with some ranges allocated.
 //! - `held_ranges` has queries about the allocated ranges, and `gaps` about the free addresses. Both return
 //!   iterators of `ranges`. `blocks` iterates over the allocated ranges and the gaps.
-//! - `conflicts` returns the reason why a range is not free.
+//! - `conflicts` returns the reason why a range is not free, and `list_conflicts` the reason why a list is
+//!   not accepted.
 //! - `comparing` compares two allocators.
 //!
 //! A counted call also returns the number of nodes that it entered. A plain call makes the counted call and
@@ -38,12 +40,15 @@ mod conflicts;
 mod deallocation;
 mod gaps;
 mod held_ranges;
+mod list_conflicts;
 mod moving;
+mod peeking;
 pub(crate) mod ranges;
 mod several;
 mod with_free;
 
 pub use conflicts::Conflict;
+pub use list_conflicts::ListConflict;
 
 /// Allocates ranges of addresses from one space.
 ///

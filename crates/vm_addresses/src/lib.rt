@@ -35,7 +35,7 @@ mod saved;
 
 pub use address_allocator::blocks::AllBlocks;
 pub use address_allocator::ranges::{Ranges, RangesIn};
-pub use address_allocator::{AddressAllocator, Conflict};
+pub use address_allocator::{AddressAllocator, Conflict, ListConflict};
 pub use vm_ranges::{
     AllocPolicy, Condition, Constraint, DEFAULT_CONSTRAINT_ALIGN, Error, ListError, RangeInclusive,
     Result, SavedError, ValueError,

@@ -1,6 +1,6 @@
 //! Callers of calls that no library above makes. They guard against clauses from which a caller cannot prove
 //! what it needs.
-ghost use Rattle.std.specs.Prelude.{◌≡◌, ◌↔◌, ◌≤◌, ◌+◌, ◌*◌, ℕ, length, map, false, Err, IsTrue, IsOk, IfOk};
+ghost use Rattle.std.specs.Prelude.{◌≡◌, option_map, ◌↔◌, ◌≤◌, ◌+◌, ◌*◌, ℕ, length, map, false, Err, IsTrue, IsOk, IfOk};
 ghost use Rattle.std.specs.List.{Contains};
 ghost use Rattle.std.specs.declared.cmp.Ordering.TheVariants.{Less};
 ghost use Rattle.vm_allocator.specs.Range.{Range, IsIn};
@@ -12,7 +12,9 @@ ghost use Rattle.vm_allocator.specs.Conflicts.{ConflictDecides};
 ghost use Rattle.vm_allocator.specs.Counts.GapSearch.{SearchesGaps};
 ghost use Rattle.vm_allocator.specs.Counts.Steps.{EntersToAllocate};
 ghost use Rattle.vm_allocator.specs.Moves.{MovesRange};
-ghost use Rattle.vm_allocator.specs.Queries.{block_parts};
+ghost use Rattle.vm_allocator.specs.Peeks.{Peeks};
+ghost use Rattle.vm_allocator.specs.ListConflicts.{fault_at, list_error};
+ghost use Rattle.vm_allocator.specs.Queries.{block_parts, count_if, gaps_of, longest_part};
 ghost use Rattle.vm_allocator.specs.SpaceBlocks.{blocks_of};
 ghost use Rattle.vm_allocator.specs.Alignment.{AlignsUp};
 ghost use Rattle.vm_allocator.specs.Making.{MakesRange};
@@ -31,8 +33,8 @@ use std::cmp::Ordering;
 use std::process::Abort;
 use vm_allocator::allocation_engine::{NodeState, align_up};
 use vm_allocator::{
-    AddressAllocator, AllBlocks, AllocPolicy, Condition, Conflict, Constraint, ListError,
-    RangeInclusive, ReadNodes, Result, SavedError, Side, ValueError,
+    AddressAllocator, AllBlocks, AllocPolicy, Condition, Conflict, Constraint, ListConflict,
+    ListError, RangeInclusive, ReadNodes, Result, SavedError, Side, ValueError,
 };
 
 /// Returns the lowest multiple from an address on.
@@ -82,6 +84,31 @@ fn blocker(space: &AddressAllocator, request: Constraint) -> Option<Conflict>
     ensures { ConflictDecides (state_of space.now) request result }
 {
     space.conflict(request)
+}
+
+/// Returns whether a request would get a range now.
+fn would_fit(space: &AddressAllocator, request: Constraint) -> Result<RangeInclusive>
+    ensures { Peeks (state_of space.now) request result }
+{
+    space.peek(request)
+}
+
+/// Returns why a range of a list is refused, if it is.
+fn refused_in_list(
+    space: &RangeInclusive,
+    held: &[RangeInclusive],
+    index: usize,
+) -> Option<ListConflict>
+    ensures { option_map list_error result ≡ fault_at space.now held.now index }
+{
+    AddressAllocator::list_conflict(space, held, index)
+}
+
+/// Returns the longest part of a gap in a window.
+fn longest_part_of(space: &AddressAllocator, window: &RangeInclusive) -> Option<RangeInclusive>
+    ensures { count_if result ≡ longest_part window.now (gaps_of (state_of space.now)) }
+{
+    space.longest_gap_in(window)
 }
 
 /// Allocates a range for each request, or none.
@@ -235,6 +262,8 @@ fn uses_of_requests(rt: HostRuntime) {
     let mut space = made(&rt, 0, 16);
     let high = upper_half(&rt);
     expect_eq(&rt, blocker(&space, high), None, "the upper half");
+    let upper = Ok(range(&rt, 8, 15));
+    expect_eq(&rt, would_fit(&space, high), upper, "it would fit");
     expect_eq(&rt, entered(rt.alloc(), &mut space, 8), 1, "the same");
     let low = (1, Ok(range(&rt, 0, 3)), 1);
     expect_eq(
@@ -245,6 +274,17 @@ fn uses_of_requests(rt: HostRuntime) {
     );
     let held = Conflict::Allocated(range(&rt, 8, 15));
     expect_eq(&rt, blocker(&space, high), Some(held), "it is not free");
+    let window = range(&rt, 1, 9);
+    let longest = Some(range(&rt, 4, 7));
+    expect_eq(&rt, longest_part_of(&space, &window), longest, "a gap");
+    let twice = [window, window];
+    let why = Some(ListConflict::NotAfter(window));
+    expect_eq(
+        &rt,
+        refused_in_list(&window, &twice, 1),
+        why,
+        "a repeated range",
+    );
     let all = allocate_each(rt.alloc(), &mut space, &[high]);
     expect_true(&rt, !all, "nor in a list");
 }

@@ -21,7 +21,9 @@ pub use Rattle.vm_addresses.specs.Tree
 pub use Rattle.vm_addresses.specs.Counts
 pub use Rattle.vm_addresses.specs.Several
 pub use Rattle.vm_addresses.specs.Moves
+pub use Rattle.vm_addresses.specs.Peeks
 pub use Rattle.vm_addresses.specs.Conflicts
+pub use Rattle.vm_addresses.specs.ListConflicts
 pub use Rattle.vm_addresses.specs.Holes
 pub use Rattle.vm_addresses.specs.Histories
 pub use Rattle.vm_addresses.specs.Values

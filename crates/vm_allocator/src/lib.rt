@@ -9,7 +9,7 @@ pub mod allocation_engine;
 
 pub use vm_addresses::{
     AddressAllocator, AllBlocks, AllocPolicy, Condition, Conflict, Constraint,
-    DEFAULT_CONSTRAINT_ALIGN, Error, ListError, RangeInclusive, Ranges, RangesIn, ReadNodes,
-    Result, SavedError, Side, ValueError, WrittenBlocks, WrittenNode, WrittenTree,
+    DEFAULT_CONSTRAINT_ALIGN, Error, ListConflict, ListError, RangeInclusive, Ranges, RangesIn,
+    ReadNodes, Result, SavedError, Side, ValueError, WrittenBlocks, WrittenNode, WrittenTree,
 };
 pub use vm_ids::{FreedIds, HeldIds, IdAllocator, IdRequest, ReadIds};

@@ -38,8 +38,8 @@ use Rattle.std.proofs.lemmas.List.{get_or-reverse, length-reverse, reverse-appen
 use Rattle.std.proofs.lemmas.Simd.{map-map}
 use Rattle.std.proofs.lemmas.List.Elements.{All-head, All-tail}
 use Rattle.vm_ranges.specs.Range.{Range}
-use Rattle.vm_chunks.specs.Entries.{IsDescendingBy, with_entry, without, entry_at}
-use Rattle.vm_chunks.proofs.EntryLaws.{entries_are_by_key}
+use Rattle.vm_list.specs.Entries.{IsDescendingBy, with_entry, without, entry_at}
+use Rattle.vm_list.proofs.EntryLaws.{entries_are_by_key}
 use Rattle.vm_devices.specs.declared.device_slot.DeviceSlot.{DeviceSlot}
 use Rattle.vm_devices.specs.declared.device_manager.device_table.DeviceStart.{DeviceStart}
 use Rattle.vm_devices.specs.Checks.{StartsAt, IsOnlyStart, AreIdsByStart, id_at}
@@ -128,10 +128,6 @@ pub listed : (ds : List DeviceSlot) → IsDescendingBy id_of ds → reverse ds �
 listed ds down =
     sym (ap (λ (es : List (ℕ × Range)). map_list device_of es) (entries_turned ds down) ∙ map-map device_of entry_of (reverse ds) ∙ map-id (reverse ds))
 
--- An id without a range is in no device of the list.
-pub id_is_new : (ds : List DeviceSlot) (q : ℕ) → map.get (map_of ds) q ≡ None → entry_at id_of q ds ≡ None
-id_is_new ds q n = absent (entry_at id_of q ds) (λ d e. grind (arith, got ds q, e, n))
-
 -- An id with a range is in a device of the list.
 pub id_is_known : (ds : List DeviceSlot) (q start : ℕ) → StartsAt (map_of ds) q start → IsSome (entry_at id_of q ds)
 id_is_known ds q start k = known (entry_at id_of q ds) (ap (option_map (λ r. r.start)) (sym (got ds q)) ∙ k)
@@ -162,15 +158,6 @@ module _ {devices : map.FinMap nat_cmp Range} {starts : List DeviceStart} (a : A
   no_start : (start : ℕ) → ((id : ℕ) → ¬ StartsAt devices id start) → entry_at start_of start starts ≡ None
   no_start start none = absent (entry_at start_of start starts)
       (λ s e. none s.id ((a.at start s.id).0 (ap (option_map (λ s. s.id)) e)))
-
-  -- The start of a new device is not in the list.
-  pub start_is_new : (id start : ℕ) → map.get devices id ≡ None → IsOnlyStart devices id start → entry_at start_of start starts ≡ None
-  start_is_new id start n only = no_start start (λ q h. grind (arith, only q h, h, n))
-
-  -- Nor is the next start of a device that moves.
-  pub next_start_is_new : (id start before : ℕ) → StartsAt devices id before → before ≢ start → IsOnlyStart devices id start →
-      entry_at start_of start starts ≡ None
-  next_start_is_new id start before d k only = no_start start (λ q h. grind (arith, only q h, h, d, k))
 
   -- The range of a device is entered by its start. No other device has this start.
   module _ (s : DeviceStart) (r : Range) (is : s.start ≡ r.start) (only : IsOnlyStart devices s.id s.start) where

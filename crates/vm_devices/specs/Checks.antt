@@ -3,7 +3,7 @@ use Rattle.std.specs.Prelude.{◌≡◌, ◌↔◌, ℕ, List, Option, Some, opt
 use Rattle.std.specs.Ordering.{nat_cmp}
 use Rattle.std.specs.FinMap as map
 use Rattle.vm_ranges.specs.Range.{Range}
-use Rattle.vm_chunks.specs.Entries.{entry_at}
+use Rattle.vm_list.specs.Entries.{entry_at}
 use Rattle.vm_devices.specs.declared.device_manager.device_table.DeviceStart.{DeviceStart}
 use Rattle.vm_devices.specs.Devices.{DeviceState}
 

@@ -81,7 +81,7 @@ impl DeviceManager {
         Ok(DeviceManager {
             id_allocator,
             mmio_allocator,
-            slots: DeviceTable::new(alloc),
+            slots: DeviceTable::new(),
         })
     }
 

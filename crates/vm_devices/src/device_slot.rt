@@ -1,6 +1,6 @@
 //! The id and the range of a device.
 use vm_addresses::RangeInclusive;
-use vm_chunks::Entry;
+use vm_list::Keyed;
 
 /// The id and the range of addresses of a device.
 #[derive(Clone, Copy, Debug, PartialEq, Eq)]
@@ -9,7 +9,7 @@ pub struct DeviceSlot {
     pub range: RangeInclusive,
 }
 
-impl Entry for DeviceSlot {
+impl Keyed for DeviceSlot {
     ghost key_of = { λ s. s.id };
 
     /// Returns the id.

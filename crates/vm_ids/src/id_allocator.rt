@@ -25,7 +25,7 @@ ghost use Rattle.vm_ids.specs.Ids.{
 
 use std::alloc::Global;
 use std::marker::Model;
-use vm_chunks::IdSet;
+use vm_list::IdSet;
 use vm_ranges::{Error, Result};
 
 mod comparing;

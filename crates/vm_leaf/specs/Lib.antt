@@ -3,6 +3,7 @@ pub mod BlockOrder
 pub mod BlockStarts
 pub mod Blocks
 pub mod Cuts
+pub mod Entries
 pub mod Fit
 pub mod GapMasks
 pub mod Leaf

@@ -14,6 +14,7 @@ mod ends;
 mod fits;
 mod gaps;
 mod moves;
+mod part;
 mod rest;
 mod summary;
 mod walk;

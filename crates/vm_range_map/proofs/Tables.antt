@@ -26,8 +26,8 @@ use Rattle.std.proofs.Common.{
 use Rattle.std.specs.Ordering.{nat_cmp}
 use Rattle.std.specs.Cmp.{nat_cmp_total, unsigned_tied}
 use Rattle.std.specs.FinMap as map
-use Rattle.vm_chunks.specs.Entries.{entry_at, with_entry, without}
-use Rattle.vm_chunks.proofs.EntryLaws.{entries_are_by_key}
+use Rattle.vm_list.specs.Entries.{entry_at, with_entry, without}
+use Rattle.vm_list.proofs.EntryLaws.{entries_are_by_key}
 use Rattle.vm_range_map.specs.Checks.{values_of}
 use Rattle.vm_range_map.specs.declared.range_map.value_table.ValueAt.{ValueAt}
 

@@ -46,7 +46,7 @@ use Rattle.vm_ranges.specs.Range.{Range}
 use Rattle.vm_ranges.proofs.Items.{less}
 use Rattle.vm_ranges.specs.Address.{AreInOrder}
 use Rattle.vm_ranges.proofs.PlainWords.{IsHeld, contains_held, held_contains}
-use Rattle.vm_chunks.specs.Entries.{IsDescendingBy}
+use Rattle.vm_list.specs.Entries.{IsDescendingBy}
 use Rattle.vm_range_map.specs.declared.range_map.value_table.ValueAt.{ValueAt}
 use Rattle.vm_range_map.specs.RangeMaps.{MapState, IsMapState}
 use Rattle.vm_range_map.specs.Queries.{valued_in}

@@ -4,7 +4,9 @@ use crate::error::{ListResult, TryListResult, TryResult};
 use crate::proved::vm_addresses as proved;
 use crate::rattle::{self, Global};
 use crate::traits::{allocator, iterate, twins, DebugList};
-use crate::{AllocPolicy, Conflict, Constraint, Error, Layout, RangeInclusive, Result, Window};
+use crate::{
+    AllocPolicy, Conflict, Constraint, Error, Layout, ListError, RangeInclusive, Result, Window,
+};
 use alloc::vec::Vec;
 use core::fmt;
 
@@ -130,7 +132,7 @@ impl AddressAllocator {
         /// # Example
         ///
         /// ```rust
-        /// use divsharun::{AddressAllocator, AllocPolicy, Error, ListError, RangeInclusive};
+        /// use divsharun::{AddressAllocator, AllocPolicy, Conflict, Error, ListError, RangeInclusive};
         ///
         /// let [low, high] = [(0x1000, 0x1fff), (0x3000, 0x3fff)]
         ///     .map(|(start, end)| RangeInclusive::new(start, end).expect("a range"));
@@ -140,16 +142,19 @@ impl AddressAllocator {
         /// assert_eq!(ports.allocate(0x1000, 1, AllocPolicy::LastMatch)?.start(), 0x2000);
         /// assert_eq!(
         ///     AddressAllocator::with_held(0, 0x4000, &[high, low]),
-        ///     Err(ListError { index: Some(1), error: Error::ResourceNotAvailable })
+        ///     Err(ListError {
+        ///         index: Some(1),
+        ///         error: Error::ResourceNotAvailable,
+        ///         conflict: Some(Conflict::NotAfter(high)),
+        ///     })
         /// );
         /// # Ok::<(), Error>(())
         /// ```
         pub fn with_held(base: u64, size: u64, held: &[RangeInclusive]) -> ListResult<Self> {
-            let make = || {
-                let held = converted(held, |range| range.0)?;
-                proved::AddressAllocator::with_held(Global, base, size, &held)
-            };
-            make().map(Self).map_err(list_error)
+            let space = proved::RangeInclusive::from_start_len(base, size);
+            of_ranges(held, space.ok(), |held| {
+                proved::AddressAllocator::with_held(Global, base, size, held)
+            })
         }
 
         /// `OutOfMemory` has no index.
@@ -157,7 +162,7 @@ impl AddressAllocator {
         /// # Example
         ///
         /// ```rust
-        /// use divsharun::{AddressAllocator, Error, ListError, RangeInclusive, TryError};
+        /// use divsharun::{AddressAllocator, Conflict, Error, ListError, RangeInclusive, TryError};
         ///
         /// let held = [RangeInclusive::new(0x1000, 0x1fff)?];
         /// assert_eq!(AddressAllocator::try_with_held(0, 0x4000, &held)?.held_count(), 1);
@@ -166,6 +171,7 @@ impl AddressAllocator {
         ///     Err(ListError {
         ///         index: Some(0),
         ///         error: TryError::Refused(Error::ResourceNotAvailable),
+        ///         conflict: Some(Conflict::OutsideSpace(RangeInclusive::new(0, 0x17ff)?)),
         ///     })
         /// );
         /// # Ok::<(), TryError>(())
@@ -191,7 +197,7 @@ impl AddressAllocator {
         /// # Example
         ///
         /// ```rust
-        /// use divsharun::{AddressAllocator, AllocPolicy, Error, ListError, RangeInclusive};
+        /// use divsharun::{AddressAllocator, AllocPolicy, Conflict, Error, ListError, RangeInclusive};
         ///
         /// // The windows of a host bridge.
         /// let low = RangeInclusive::new(0xc000_0000, 0xfebf_ffff)?;
@@ -203,16 +209,20 @@ impl AddressAllocator {
         /// assert_eq!(bar.start(), high.start());
         /// assert_eq!(
         ///     AddressAllocator::with_free(&[high, low]),
-        ///     Err(ListError { index: Some(1), error: Error::ResourceNotAvailable })
+        ///     Err(ListError {
+        ///         index: Some(1),
+        ///         error: Error::ResourceNotAvailable,
+        ///         conflict: Some(Conflict::NotAfter(high)),
+        ///     })
         /// );
         /// # Ok::<(), Error>(())
         /// ```
         pub fn with_free(free: &[RangeInclusive]) -> ListResult<Self> {
-            let make = || {
-                let free = converted(free, |range| range.0)?;
-                proved::AddressAllocator::with_free(Global, &free)
-            };
-            make().map(Self).map_err(list_error)
+            // The space starts with the first range, so a range is never outside it.
+            let space = free.first().map(|first| first.0);
+            of_ranges(free, space, |free| {
+                proved::AddressAllocator::with_free(Global, free)
+            })
         }
 
         /// `OutOfMemory` has no index.
@@ -308,6 +318,35 @@ impl AddressAllocator {
 
         /// A range that fills its gap needs no memory.
         pub fn try_allocate_constraint -> TryResult;
+    }
+
+    /// Returns the range that [`allocate_constraint`](Self::allocate_constraint) would allocate now, and changes
+    /// nothing. So a configuration can be checked before it is begun.
+    ///
+    /// For `ExactMatch` the time is logarithmic. For the other policies it is linear in the number of ranges
+    /// and gaps of the window up to the result.
+    ///
+    /// # Errors
+    ///
+    /// Those of [`allocate_constraint`](Self::allocate_constraint), in the same order: `Overflow`,
+    /// `ResourceNotAvailable` and `InvalidStateTransition`.
+    ///
+    /// # Example
+    ///
+    /// ```rust
+    /// use divsharun::{AddressAllocator, AllocPolicy, Constraint, Error};
+    ///
+    /// let mut mmio = AddressAllocator::new(0xd000_0000, 0x1_0000)?;
+    /// mmio.allocate(0x1000, 0x1000, AllocPolicy::FirstMatch)?;
+    ///
+    /// let bar = Constraint::new(0x8000, 0x8000, AllocPolicy::FirstMatch)?;
+    /// assert_eq!(mmio.peek(bar)?.start(), 0xd000_8000);
+    /// assert_eq!(mmio.peek(bar), mmio.allocate_constraint(bar));
+    /// assert_eq!(mmio.peek(bar), Err(Error::ResourceNotAvailable));
+    /// # Ok::<(), Error>(())
+    /// ```
+    pub fn peek(&self, request: Constraint) -> Result<RangeInclusive> {
+        Ok(RangeInclusive(self.0.peek(request.0)?))
     }
 
     /// Returns the reason why the range of an `ExactMatch` request is not free, or `None` if it is free.
@@ -483,7 +522,7 @@ impl AddressAllocator {
         /// // Only one of these two fits.
         /// assert_eq!(
         ///     mmio.allocate_all(&[registers, registers]),
-        ///     Err(ListError { index: Some(1), error: Error::ResourceNotAvailable })
+        ///     Err(ListError { index: Some(1), error: Error::ResourceNotAvailable, conflict: None })
         /// );
         /// assert!(mmio.held_ranges().eq(bars));
         /// # Ok::<(), Error>(())
@@ -497,7 +536,11 @@ impl AddressAllocator {
                 ranges.extend(allocated.iter().map(|range| RangeInclusive(*range)));
                 Ok(ranges)
             };
-            allocate().map_err(list_error)
+            allocate().map_err(|failure: proved::ListError| {
+                list_error(failure, |index| {
+                    self.0.conflict(requests.get(index)?.0)
+                })
+            })
         }
 
         /// `OutOfMemory` has the index of the request that needs memory for a node, and no index if
@@ -895,6 +938,31 @@ impl AddressAllocator {
         self.0.longest_gap()
     }
 
+    /// Returns the longest part of a gap that lies in a window, the lowest of them if several are as long, or
+    /// `None` if no address of the window is free.
+    ///
+    /// The window is a range of `u64` or a [`RangeInclusive`]. So it says why a request does not fit: at
+    /// alignment 1, it fits in the window if and only if its size is at most the length of this part. It goes
+    /// through the ranges and gaps of the window and does not allocate.
+    ///
+    /// # Example
+    ///
+    /// ```rust
+    /// use divsharun::{AddressAllocator, AllocPolicy, RangeInclusive};
+    ///
+    /// let mut mmio = AddressAllocator::new(0xd000_0000, 0x1000_0000)?;
+    /// mmio.allocate(0x1000, 0x1000, AllocPolicy::ExactMatch(0xd400_0000))?;
+    /// let longest = mmio.longest_gap_in(..0xd500_0000);
+    /// assert_eq!(longest, Some(RangeInclusive::new(0xd000_0000, 0xd3ff_ffff)?));
+    /// assert_eq!(mmio.longest_gap_in(0xd400_0000..0xd400_1000), None);
+    /// # Ok::<(), divsharun::Error>(())
+    /// ```
+    #[must_use]
+    pub fn longest_gap_in(&self, window: impl Window) -> Option<RangeInclusive> {
+        let part = part_of(self.space(), window);
+        self.0.longest_gap_in(&part.0).map(RangeInclusive)
+    }
+
     /// Returns the number of gaps.
     ///
     /// It takes constant time and does not allocate.
@@ -1019,6 +1087,22 @@ fn part_of(space: RangeInclusive, window: impl Window) -> RangeInclusive {
     let outside = space.end().wrapping_add(1);
     part.or(RangeInclusive::new(outside, outside))
         .expect("one address is a range")
+}
+
+/// Creates an allocator of a list of ranges. The error of a range has its conflict in a space.
+fn of_ranges<E: From<proved::Error>>(
+    ranges: &[RangeInclusive],
+    space: Option<proved::RangeInclusive>,
+    create: impl FnOnce(
+        &[proved::RangeInclusive],
+    ) -> core::result::Result<proved::AddressAllocator, proved::ListError>,
+) -> core::result::Result<AddressAllocator, ListError<E>> {
+    let no_conflict = |_| None::<Conflict>;
+    let ranges = converted(ranges, |range| range.0);
+    let ranges = ranges.map_err(|error| list_error(error, no_conflict))?;
+    let conflict = |index| proved::AddressAllocator::list_conflict(&space?, &ranges, index);
+    let created = create(&ranges).map(AddressAllocator);
+    created.map_err(|failure| list_error(failure, conflict))
 }
 
 /// Returns a list of converted items.

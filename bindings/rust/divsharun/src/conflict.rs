@@ -3,11 +3,12 @@ use crate::pad::pad;
 use crate::RangeInclusive;
 use core::fmt;
 
-/// The reason why the range of a request is not free.
+/// The reason why the range of a request is not free, or why a range of a list cannot be allocated.
 ///
 /// [`AddressAllocator::conflict`](crate::AddressAllocator::conflict),
 /// [`AddressAllocator::move_conflict`](crate::AddressAllocator::move_conflict) and
-/// [`DeviceManager::conflict`](crate::DeviceManager::conflict) return it.
+/// [`DeviceManager::conflict`](crate::DeviceManager::conflict) return it, and a
+/// [`ListError`](crate::ListError) has it. Only a list has the last two reasons.
 ///
 /// `Display` writes all numbers in hexadecimal. A `match` needs an arm for the reasons of later
 /// versions:
@@ -20,6 +21,8 @@ use core::fmt;
 ///         Conflict::OutsideSpace(range) => range,
 ///         Conflict::OutsideWindow(range) => range,
 ///         Conflict::Allocated(range) => range,
+///         Conflict::NotAfter(range) => range,
+///         Conflict::EndsAtMax => panic!(),
 ///     }
 /// }
 /// ```
@@ -41,9 +44,12 @@ use core::fmt;
 /// assert_eq!(mmio.conflict(io_apic), Some(Conflict::OutsideSpace(space)));
 /// let text = "an address is outside the space 0xd0000000-0xfebfffff";
 /// assert_eq!(Conflict::OutsideSpace(space).to_string(), text);
+///
+/// let failure = AddressAllocator::with_free(&[space, bridge]).map_err(|failure| failure.conflict);
+/// assert_eq!(failure, Err(Some(Conflict::NotAfter(space))));
 /// # Ok::<(), divsharun::Error>(())
 /// ```
-#[derive(Clone, Copy, Debug, PartialEq, Eq, Hash)]
+#[derive(Clone, Copy, Debug, PartialEq, Eq, PartialOrd, Ord, Hash)]
 #[non_exhaustive]
 pub enum Conflict {
     /// The range is not in the space, or no range in the window is. This is the space.
@@ -52,6 +58,10 @@ pub enum Conflict {
     OutsideWindow(RangeInclusive),
     /// This allocated range has an address in common with the range. It is the lowest of them.
     Allocated(RangeInclusive),
+    /// The range does not start after the end of the range before it in a list. This is the range before it.
+    NotAfter(RangeInclusive),
+    /// The range of a list ends at `u64::MAX`.
+    EndsAtMax,
 }
 
 impl fmt::Display for Conflict {
@@ -60,6 +70,10 @@ impl fmt::Display for Conflict {
             Conflict::OutsideSpace(space) => ("outside the space", space),
             Conflict::OutsideWindow(window) => ("outside the window", window),
             Conflict::Allocated(held) => ("in the allocated range", held),
+            Conflict::NotAfter(before) => {
+                return pad(f, |to| write!(to, "it does not start after {before:#x}"));
+            }
+            Conflict::EndsAtMax => return pad(f, |to| write!(to, "it ends at the last address")),
         };
         pad(f, |to| write!(to, "an address is {relation} {range:#x}"))
     }

@@ -72,6 +72,16 @@ impl Into<Conflict> for proved::Conflict {
     }
 }
 
+impl Into<Conflict> for proved::ListConflict {
+    fn into(self) -> Conflict {
+        match self {
+            proved::ListConflict::NotAfter(before) => Conflict::NotAfter(before.into()),
+            proved::ListConflict::OutsideSpace(space) => Conflict::OutsideSpace(space.into()),
+            proved::ListConflict::EndsAtMax => Conflict::EndsAtMax,
+        }
+    }
+}
+
 #[diagnostic::do_not_recommend]
 impl From<proved::Error> for TryError {
     fn from(error: proved::Error) -> Self {
@@ -82,10 +92,17 @@ impl From<proved::Error> for TryError {
     }
 }
 
-/// Converts the error of a call with a list.
-pub(crate) fn list_error<E: From<proved::Error>>(failure: proved::ListError) -> ListError<E> {
-    let (index, error) = (failure.index, failure.error.into());
-    ListError { index, error }
+/// Converts the error of a call with a list. `conflict` returns the conflict of the item with an index.
+pub(crate) fn list_error<E: From<proved::Error>, C: Into<Conflict>>(
+    failure: impl Into<proved::ListError>,
+    conflict: impl FnOnce(usize) -> Option<C>,
+) -> ListError<E> {
+    let failure = failure.into();
+    ListError {
+        index: failure.index,
+        error: failure.error.into(),
+        conflict: failure.index.and_then(conflict).map(Into::into),
+    }
 }
 
 /// Ends the process, as Rust's collections do.

@@ -1,7 +1,7 @@
 // SPDX-License-Identifier: Apache-2.0 OR BSD-3-Clause
 use crate::pad::pad;
 use crate::proved::vm_addresses as proved;
-use crate::{NodeState, RangeInclusive};
+use crate::{Conflict, NodeState, RangeInclusive};
 use core::fmt;
 
 /// The error of a call. A call that returns an error leaves the same ranges and ids allocated.
@@ -149,7 +149,7 @@ impl From<Error> for TryError {
     }
 }
 
-/// The error of a call with a list. It names the item of the list that failed.
+/// The error of a call with a list. It names the item of the list that failed, and what is in its way.
 ///
 /// `E` is [`TryError`] for a call with the prefix `try_`. The operator `?` converts it to its error.
 /// `Display` writes that error after the item, so it has no `source`.
@@ -165,6 +165,7 @@ impl From<Error> for TryError {
 ///     let requests = [registers, buffer];
 ///     if let Err(failure) = mmio.allocate_all(&requests) {
 ///         assert_eq!(failure.index, Some(1));
+///         assert_eq!(failure.conflict, None);
 ///         assert_eq!(failure.to_string(), "item 1: The requested resource is not available.");
 ///     }
 ///     Ok(mmio.allocate_all(&requests)?)
@@ -212,6 +213,10 @@ pub struct ListError<E = Error> {
     pub index: Option<usize>,
     /// The error.
     pub error: E,
+    /// The reason why the item is not allocated, if there is one: why `with_held` or `with_free` refused the
+    /// range, or the [`conflict`](crate::AddressAllocator::conflict) of the request of `allocate_all`. If
+    /// only an earlier request of `allocate_all` is in the way, it is `None`.
+    pub conflict: Option<Conflict>,
 }
 
 impl<E: fmt::Display> fmt::Display for ListError<E> {

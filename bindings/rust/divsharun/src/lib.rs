@@ -54,14 +54,16 @@
 //!   [`with_held`](AddressAllocator::with_held), [`with_free`](AddressAllocator::with_free),
 //!   [`allocate_all`](AddressAllocator::allocate_all),
 //!   [`allocate_constraint`](AddressAllocator::allocate_constraint),
-//!   [`conflict`](AddressAllocator::conflict), [`move_range`](AddressAllocator::move_range),
+//!   [`peek`](AddressAllocator::peek), [`conflict`](AddressAllocator::conflict),
+//!   [`move_range`](AddressAllocator::move_range),
 //!   [`move_constraint`](AddressAllocator::move_constraint), [`space`](AddressAllocator::space),
 //!   [`held_ranges`](AddressAllocator::held_ranges), [`iter`](AddressAllocator::iter),
 //!   [`held_ranges_in`](AddressAllocator::held_ranges_in), [`holds`](AddressAllocator::holds),
 //!   [`held_at`](AddressAllocator::held_at), [`held_count`](AddressAllocator::held_count),
 //!   [`gaps`](AddressAllocator::gaps), [`gaps_in`](AddressAllocator::gaps_in),
 //!   [`gap_at`](AddressAllocator::gap_at), [`gap_count`](AddressAllocator::gap_count),
-//!   [`longest_gap`](AddressAllocator::longest_gap), [`free_len`](AddressAllocator::free_len),
+//!   [`longest_gap`](AddressAllocator::longest_gap),
+//!   [`longest_gap_in`](AddressAllocator::longest_gap_in), [`free_len`](AddressAllocator::free_len),
 //!   [`height`](AddressAllocator::height), [`layout`](AddressAllocator::layout),
 //!   [`allocate_counted`](AddressAllocator::allocate_counted),
 //!   [`allocate_constraint_counted`](AddressAllocator::allocate_constraint_counted) and
@@ -99,8 +101,9 @@
 //! search for a range visit more gaps. A walk within a range takes time of the order of log k, plus the
 //! number of ranges and gaps in it. Calls on one id, device or range of a map take logarithmic time, also
 //! if they skip ids. If a call makes the list of freed ids, of devices or of values longer, it can also move
-//! the list, in linear time. Counts, ends, `height` and `longest_gap` take constant time. Other calls of
-//! allocators, managers and maps take at most linear time.
+//! the list, in linear time. Counts, ends, `height` and `longest_gap` take constant time. `last` of an
+//! iterator takes logarithmic time, and `count` of an iterator with an exact length constant time. Other
+//! calls of allocators, managers and maps take at most linear time.
 //!
 //! The allocated ranges and gaps are in leaves of 280 bytes, with 12 to 32 of them in each leaf, and an
 //! inner node of 56 bytes joins two subtrees. A tree that is one leaf can have fewer. Allocating or moving

@@ -54,6 +54,18 @@ macro_rules! iterate {
             fn size_hint(&self) -> (usize, Option<usize>) {
                 self.0.size_hint()
             }
+
+            // An exact length is known.
+            fn count(self) -> usize {
+                match self.0.size_hint() {
+                    (least, most) if most == Some(least) => least,
+                    _ => self.0.count(),
+                }
+            }
+
+            fn last(mut self) -> Option<$item> {
+                self.next_back()
+            }
         }
 
         impl<'a $(, $value)?> DoubleEndedIterator for $name<'a $(, $value)?> {

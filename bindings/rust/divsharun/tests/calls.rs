@@ -356,7 +356,32 @@ fn ranges_are_read_from_their_texts() {
     }
 }
 
-/// Checks each error of `with_held`, `with_free` and `allocate_all` in both forms.
+/// Checks that a call with a list has an error in both forms.
+fn expect_refused<T: PartialEq + Debug>(
+    answer: Result<T, ListError>,
+    tried: Result<T, ListError<TryError>>,
+    (index, error, conflict): (Option<usize>, Error, Option<Conflict>),
+) {
+    assert_eq!(
+        answer,
+        Err(ListError {
+            index,
+            error,
+            conflict
+        })
+    );
+    let error = TryError::Refused(error);
+    assert_eq!(
+        tried,
+        Err(ListError {
+            index,
+            error,
+            conflict
+        })
+    );
+}
+
+/// Checks each error of `with_held`, `with_free` and `allocate_all` in both forms, with its conflict.
 #[test]
 fn errors_of_calls_with_lists() {
     use Error::{InvalidRange, InvalidStateTransition, Overflow, ResourceNotAvailable, Underflow};
@@ -367,71 +392,106 @@ fn errors_of_calls_with_lists() {
         [range(20, 23), range(23, 24)],
         [range(20, 23), range(24, 32)],
     );
-    for (base, size, held, index, error) in [
-        (16, 0, [range(4, 5), range(max, max)], None, Underflow),
-        (max, 2, [range(4, 5), range(4, 5)], None, Overflow),
-        (16, 16, first, Some(1), ResourceNotAvailable),
-        (16, 16, [range(31, 31), range(max, max)], Some(1), Overflow),
-        (16, 16, second, Some(1), ResourceNotAvailable),
+    let after = |range| Some(Conflict::NotAfter(range));
+    let outside = Some(Conflict::OutsideSpace(range(16, 31)));
+    let at_max = Some(Conflict::EndsAtMax);
+    for (base, size, held, index, error, conflict) in [
+        (16, 0, [range(4, 5), range(max, max)], None, Underflow, None),
+        (max, 2, [range(4, 5), range(4, 5)], None, Overflow, None),
+        (
+            16,
+            16,
+            first,
+            Some(1),
+            ResourceNotAvailable,
+            after(first[0]),
+        ),
+        (
+            16,
+            16,
+            [range(31, 31), range(max, max)],
+            Some(1),
+            Overflow,
+            at_max,
+        ),
+        (16, 16, second, Some(1), ResourceNotAvailable, outside),
+        (
+            16,
+            16,
+            [range(15, 16), range(17, 18)],
+            Some(0),
+            ResourceNotAvailable,
+            outside,
+        ),
         (
             max - 15,
             16,
             [range(max - 15, max), range(4, 5)],
             Some(0),
             Overflow,
+            at_max,
         ),
     ] {
         let answer = AddressAllocator::with_held(base, size, &held);
-        assert_eq!(answer, Err(ListError { index, error }));
-        let answer = AddressAllocator::try_with_held(base, size, &held);
-        let error = TryError::Refused(error);
-        assert_eq!(answer, Err(ListError { index, error }));
+        let tried = AddressAllocator::try_with_held(base, size, &held);
+        expect_refused(answer, tried, (index, error, conflict));
     }
 
-    for (free, index, error) in [
-        (&[][..], None, Underflow),
+    for (free, index, error, conflict) in [
+        (&[][..], None, Underflow, None),
         (
             &[range(5, 9), range(9, 12), range(1, 2)],
             Some(1),
             ResourceNotAvailable,
+            after(range(5, 9)),
         ),
         (
             &[range(5, 9), range(10, 12), range(0, max - 1)],
             Some(2),
             ResourceNotAvailable,
+            after(range(10, 12)),
         ),
         (
             &[range(0, 4), range(9, max), range(max, max)],
             Some(2),
             ResourceNotAvailable,
+            after(range(9, max)),
         ),
-        (&[range(0, 4), range(9, max)], None, InvalidRange(0, max)),
+        (
+            &[range(0, 4), range(9, max)],
+            None,
+            InvalidRange(0, max),
+            None,
+        ),
     ] {
         let answer = AddressAllocator::with_free(free);
-        assert_eq!(answer, Err(ListError { index, error }));
-        let answer = AddressAllocator::try_with_free(free);
-        let error = TryError::Refused(error);
-        assert_eq!(answer, Err(ListError { index, error }));
+        let tried = AddressAllocator::try_with_free(free);
+        expect_refused(answer, tried, (index, error, conflict));
     }
 
     let exact = |start| Constraint::new(8, 8, AllocPolicy::ExactMatch(start)).unwrap();
     let held = [range(16, 23)];
+    let outside = Some(Conflict::OutsideSpace(range(0, 63)));
     let mut space = AddressAllocator::with_held(0, 64, &held).unwrap();
-    for (start, error) in [
-        (16, InvalidStateTransition(held[0], NodeState::Allocated)),
-        (64, ResourceNotAvailable),
-        (max - 7, ResourceNotAvailable),
-        (0, InvalidStateTransition(range(0, 7), NodeState::Allocated)),
+    for (start, error, conflict) in [
+        (
+            16,
+            InvalidStateTransition(held[0], NodeState::Allocated),
+            Some(Conflict::Allocated(held[0])),
+        ),
+        (64, ResourceNotAvailable, outside),
+        (max - 7, ResourceNotAvailable, outside),
+        // Only the first request is in the way.
+        (
+            0,
+            InvalidStateTransition(range(0, 7), NodeState::Allocated),
+            None,
+        ),
     ] {
         let requests = [exact(0), exact(start), exact(8)];
-        let index = Some(1);
-        assert_eq!(
-            space.allocate_all(&requests),
-            Err(ListError { index, error })
-        );
-        let answer = space.try_allocate_all(&requests);
-        let error = TryError::Refused(error);
-        assert_eq!(answer, Err(ListError { index, error }));
+        let answer = space.allocate_all(&requests);
+        let tried = space.try_allocate_all(&requests);
+        expect_refused(answer, tried, (Some(1), error, conflict));
         assert!(space.held_ranges().eq(held));
     }
 }
@@ -483,7 +543,16 @@ fn errors_of_lists_convert() {
     }
     let index = None;
     let text = "The requested resource is not available.";
-    assert_eq!(ListError { index, error }.to_string(), text);
+    let conflict = None;
+    assert_eq!(
+        ListError {
+            index,
+            error,
+            conflict
+        }
+        .to_string(),
+        text
+    );
 }
 
 /// Checks calls with lists of more items than 16 bits can count.
@@ -850,6 +919,30 @@ fn a_layout_is_written_as_the_kernel_does() {
     }
 }
 
+/// Checks a layout with many ranges and many names for each, in lists of any order.
+#[test]
+fn the_last_of_many_names_is_shown() {
+    let mut space = AddressAllocator::new(0, 0x1000).unwrap();
+    let mut allocate = || space.allocate(0x10, 0x10, AllocPolicy::FirstMatch).unwrap();
+    let ranges: Vec<_> = (0..40).map(|_| allocate()).collect();
+    let texts: Vec<_> = (0..50).map(|name| format!("name {name}")).collect();
+    let mut layout = space.layout();
+    for (number, name) in texts.iter().enumerate() {
+        let each = ranges.iter().map(|range| (*range, name.as_str()));
+        layout = match number % 3 {
+            0 => layout.named(each),
+            1 => layout.named(each.rev()),
+            _ => layout.try_named(each).unwrap(),
+        };
+    }
+    let mut lines: Vec<_> = ranges
+        .iter()
+        .map(|range| format!("{:04x}-{:04x} : name 49", range.start(), range.end()))
+        .collect();
+    lines.push("0280-0fff : gap".into());
+    assert_eq!(layout.to_string(), lines.join("\n"));
+}
+
 #[test]
 fn ranges_convert_and_are_written_in_hexadecimal() {
     let range = RangeInclusive::new(0xd000_0000, 0xd000_0fff).unwrap();
@@ -880,6 +973,7 @@ fn errors_that_write_another_have_no_source() {
     let of_item = ListError {
         index: Some(1),
         error,
+        conflict: None,
     };
     let errors: [&dyn std::error::Error; 4] =
         [&Error::Overflow, &error, &TryError::OutOfMemory, &of_item];
@@ -907,11 +1001,17 @@ fn texts_are_padded_as_a_whole() {
     let of_long = long.each_ref().map(|error| ListError {
         index: Some(usize::MAX),
         error,
+        conflict: None,
     });
     let long_texts = long
         .each_ref()
         .map(|text| format!("item {}: {text}", usize::MAX));
-    let texts: [(&dyn Display, &str); 21] = [
+    let no_range = "".parse::<RangeInclusive>().unwrap_err();
+    let texts: [(&dyn Display, &str); 24] = [
+        (
+            &no_range,
+            "the text is not a range of addresses, such as d0000000-d0000fff",
+        ),
         (&range, "d0-d7"),
         (
             &Error::Overflow,
@@ -957,6 +1057,7 @@ fn texts_are_padded_as_a_whole() {
             &ListError {
                 index: None,
                 error: TryError::OutOfMemory,
+                conflict: None,
             },
             "There is not enough memory.",
         ),
@@ -964,6 +1065,7 @@ fn texts_are_padded_as_a_whole() {
             &ListError {
                 index: Some(2),
                 error: Error::InvalidAlignment,
+                conflict: Some(Conflict::EndsAtMax),
             },
             "item 2: Alignment value is invalid.",
         ),
@@ -982,6 +1084,11 @@ fn texts_are_padded_as_a_whole() {
             &Conflict::OutsideWindow(range),
             "an address is outside the window 0xd0-0xd7",
         ),
+        (
+            &Conflict::NotAfter(range),
+            "it does not start after 0xd0-0xd7",
+        ),
+        (&Conflict::EndsAtMax, "it ends at the last address"),
         (
             &Conflict::Allocated(range),
             "an address is in the allocated range 0xd0-0xd7",
@@ -1101,10 +1208,12 @@ fn different_values_are_not_equal() {
     expect_distinct(&indices.map(|index| ListError {
         index,
         error: errors[0],
+        conflict: None,
     }));
     let lists = errors.iter().map(|error| ListError {
         index: None,
         error: *error,
+        conflict: None,
     });
     expect_distinct(&lists.collect::<Vec<_>>());
 }

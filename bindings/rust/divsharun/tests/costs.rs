@@ -37,15 +37,15 @@ const OF_SPACES: [Calls<AddressAllocator>; 19] = [
     |space, _| space.longest_gap() == 1 && space.base() < space.end() && space.height() > 1,
     |space, at| AddressAllocator::over(space.space()).free_len() > at,
     |space, at| space.conflict(exact(at)).is_some() && space.conflict(exact(at + 1)).is_none(),
-    |space, _| has_ends(space.held_ranges(), |items| items.len() > 1),
-    |space, _| has_ends(space.gaps(), |items| items.len() > 1),
+    |space, _| has_ends(space.held_ranges(), is_counted),
+    |space, _| has_ends(space.gaps(), is_counted),
     |space, at| {
         has_ends(space.held_ranges_in(from(at)), |items| {
             items.size_hint().0 <= 5
         })
     },
     |space, at| has_ends(space.gaps_in(from(at)), |items| items.size_hint().0 <= 5),
-    |space, _| has_ends(space.layout().blocks(), |items| items.len() > 2),
+    |space, _| has_ends(space.layout().blocks(), is_counted),
     |space, at| {
         let allocated = [
             space.allocate(1, 1, ExactMatch(at + 1)),
@@ -114,7 +114,7 @@ const OF_SPACES: [Calls<AddressAllocator>; 19] = [
     |space, at| {
         has_ends(space.held_ranges_in(at..), |items| items.size_hint().0 < 9)
             && has_ends(space.gaps_in(at..), |items| items.size_hint().0 < 9)
-            && has_ends(space.layout().blocks(), |items| items.len() > 2)
+            && has_ends(space.layout().blocks(), is_counted)
             && AddressAllocator::new(at, space.end()).is_ok()
     },
 ];
@@ -163,7 +163,7 @@ const OF_WALKS: [Calls<[AddressAllocator; 2]>; 10] = [
 const OF_IDS: [Calls<IdAllocator>; 6] = [
     |ids, at| ids.is_allocated(at as u32) && ids.peek_id().is_ok(),
     |ids, _| ids.held_count() > ids.free_count() && ids.range_base() < ids.range_end(),
-    |ids, _| has_ends(ids.held_ids(), |items| items.len() > 2),
+    |ids, _| has_ends(ids.held_ids(), is_counted),
     |ids, at| {
         let (at, count) = (at as usize, ids.held_count() as usize);
         ids.iter().nth(at) == ids.iter().nth_back(count - 1 - at)
@@ -192,7 +192,7 @@ const OF_FREED_IDS: [Calls<IdAllocator>; 3] = [
     |ids, at| {
         ids.is_allocated(at as u32)
             && !ids.is_allocated(at as u32 + 1)
-            && has_ends(ids.held_ids(), |items| items.len() > 2)
+            && has_ends(ids.held_ids(), is_counted)
     },
     |ids, at| {
         let at = at as u32;
@@ -246,7 +246,7 @@ const OF_DEVICES: [Calls<DeviceManager>; 8] = [
     |devices, at| devices.slot(at as u32).is_some() && devices.device_at(2 * at).is_some(),
     |devices, at| devices.device_count() > at && devices.conflict(exact(2 * at)).is_some(),
     |devices, at| devices.space().contains_address(at),
-    |devices, _| has_ends(devices.devices(), |items| items.len() > 2),
+    |devices, _| has_ends(devices.devices(), is_counted),
     |devices, _| {
         let reserved = [
             devices.reserve(1, 1, FirstMatch),
@@ -302,7 +302,7 @@ const OF_MANAGERS: [Calls<[DeviceManager; 2]>; 4] = [
 const OF_MAPS: [Calls<RangeMap<u64>>; 4] = [
     |map, at| map.get(at) == Some((one(at), &at)) && map.get_mut(at + 1).is_none(),
     |map, at| map.held_count() > at / 2 && map.space().contains_address(at),
-    |map, _| has_ends(map.iter(), |items| items.len() > 2),
+    |map, _| has_ends(map.iter(), is_counted),
     |map, at| {
         let moved = map.move_constraint(&one(at), exact(at + 1)).unwrap();
         let low = map.allocate(1, 1, FirstMatch, 7).unwrap();
@@ -365,8 +365,16 @@ fn items<T>(all: impl Iterator<Item = T>) -> Vec<T> {
 }
 
 /// Returns whether an iterator passes a check, and has a first and a last item.
-fn has_ends<I: DoubleEndedIterator>(mut items: I, check: fn(&I) -> bool) -> bool {
-    check(&items) && items.next().is_some() && items.next_back().is_some()
+fn has_ends<I: DoubleEndedIterator + Clone>(mut items: I, check: fn(&I) -> bool) -> bool {
+    check(&items)
+        && items.clone().last().is_some()
+        && items.next().is_some()
+        && items.next_back().is_some()
+}
+
+/// Returns whether an iterator has several items, by its length and its count.
+fn is_counted<I: ExactSizeIterator + Clone>(items: &I) -> bool {
+    items.len() > 2 && items.clone().count() == items.len()
 }
 
 /// Compares the shortest times of each row in two objects, at many items.

@@ -13,7 +13,7 @@ mod refusing;
 use divsharun::AllocPolicy::{ExactMatch, FirstMatch, LastMatch};
 use divsharun::{
     AddressAllocator, Constraint, DeviceManager, DeviceSlot, Error, IdAllocator, IdRequest,
-    ListError, RangeInclusive, Result, TryError,
+    RangeInclusive, Result, TryError,
 };
 use draw::Draw;
 use model::{refused, Ids, Model, Scale};
@@ -249,16 +249,20 @@ impl Space {
             let range = model.allocate(*request);
             range.iter().for_each(|range| model.hold(*range));
             let answer = scale.answer(range);
-            answer.map_err(|error| ListError { index, error })
+            answer.map_err(|error| (index, error))
         });
         let want = answers.collect::<std::result::Result<Vec<_>, _>>();
         let far = requests.iter().map(|request| scale.request(*request));
         let far: Vec<_> = far.collect();
         if draw.below(2) == 0 {
-            assert_eq!(self.space.allocate_all(&far), want);
+            let answer = self.space.allocate_all(&far);
+            assert_eq!(
+                answer.map_err(|failure| (failure.index, failure.error)),
+                want
+            );
         } else {
             let answer = tried(&mut self.space, draw, |space| space.try_allocate_all(&far));
-            assert_eq!(answer, want.clone().map_err(Error::from));
+            assert_eq!(answer, want.clone().map_err(|(_, error)| error));
         }
         if want.is_ok() {
             self.model = model;
@@ -304,6 +308,9 @@ impl Beside for Space {
             1 => self.allocate_list(draw),
             _ => {
                 let want = model.allocate(request);
+                let before = space.clone();
+                assert_eq!(space.peek(far), scale.answer(want), "{far}");
+                assert!(before == *space);
                 want.iter().for_each(|range| model.hold(*range));
                 let (size, align, policy) = (far.size(), far.align(), far.policy());
                 let is_whole = far.window().is_none();
@@ -350,6 +357,12 @@ impl Beside for Space {
         let lengths = || gaps.iter().map(|gap| gap.len() << scale.0);
         assert_eq!(space.free_len(), lengths().sum::<u64>());
         assert_eq!(space.longest_gap(), lengths().max().unwrap_or(0));
+        let far_key = scale.range(key);
+        let far_gaps = gaps.iter().map(|gap| scale.range(*gap));
+        let parts = far_gaps.filter_map(|gap| gap.intersection(&far_key));
+        let longest = parts.rev().max_by_key(|part| part.len());
+        assert_eq!(space.longest_gap_in(far_key), longest);
+
         if let Some(window) = request.window() {
             let meets = |range: &RangeInclusive| range.overlaps(&window);
             let far_window = scale.range(window);

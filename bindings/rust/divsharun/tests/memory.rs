@@ -28,6 +28,9 @@ const ENDING: &str = "DIVSHARUN_TEST_OF_MEMORY";
 /// The signal of a process that `abort` ended.
 const ABORTED: i32 = 6;
 
+/// The allocations of the first entry of a list: a leaf, and memory for its entries.
+const FIRST: u64 = 2;
+
 type Tried = Result<(), TryError>;
 type TriedCall = fn(&mut AddressAllocator) -> Tried;
 type EndedCall = fn(&mut AddressAllocator);
@@ -139,7 +142,7 @@ const TRIED: [(u64, TriedCall); 43] = [
     }),
     (0, |space| refused(space.try_allocate(64, 1, FirstMatch))),
     (0, |space| refused(space.try_allocate(0, 1, FirstMatch))),
-    (1, |_| one_held_id().try_free_id(0).map(drop)),
+    (FIRST, |_| one_held_id().try_free_id(0).map(drop)),
     (0, |_| refused(one_held_id().try_free_id(1))),
     (0, |_| one_held_id().try_clone().map(drop)),
     (1, |_| DeviceManager::try_new(0, 0, 0, 64).map(drop)),
@@ -151,17 +154,17 @@ const TRIED: [(u64, TriedCall); 43] = [
         let devices = DeviceManager::try_new(0, 0, 0, 64)?;
         devices.try_ids().map(drop)
     }),
-    (1 + 3, |_| {
+    (1 + 3 * FIRST, |_| {
         let mut devices = DeviceManager::try_new(0, 0, 0, 64)?;
         devices.try_reserve(1, 1, FirstMatch)?;
         devices.try_release(0)
     }),
-    (1 + 3, |_| {
+    (1 + 3 * FIRST, |_| {
         let mut devices = DeviceManager::try_new(0, 0, 0, 64)?;
         devices.try_reserve_constraint(in_the_middle(1, FirstMatch))?;
         devices.try_release(0)
     }),
-    (2 * (1 + 2), |_| {
+    (2 * (1 + 2 * FIRST), |_| {
         let mut devices = DeviceManager::try_new(0, 0, 0, 64)?;
         devices.try_reserve(1, 1, FirstMatch)?;
         devices.try_clone().map(drop)
@@ -169,7 +172,7 @@ const TRIED: [(u64, TriedCall); 43] = [
 ];
 
 /// Calls that end the process, each with the number of its allocations on [`full_leaf`]. A few
-/// freed ids, devices or starts are one chunk.
+/// freed ids, devices or starts are one leaf.
 const ENDED: [(u64, EndedCall); 25] = [
     (1, |_| assert!(AddressAllocator::new(0, 64).is_ok())),
     (1, |_| drop(AddressAllocator::over(both()[0]))),
@@ -201,10 +204,12 @@ const ENDED: [(u64, EndedCall); 25] = [
         let request = in_the_middle(4, FirstMatch);
         assert!(space.move_constraint(&both()[0], request).is_ok())
     }),
-    (1, |_| drop(one_free_id())),
-    (2, |_| drop(one_free_id().clone())),
-    (1, |_| assert!(IdAllocator::with_held(0, 9, &[1]).is_ok())),
-    (1, |_| {
+    (FIRST, |_| drop(one_free_id())),
+    (2 * FIRST, |_| drop(one_free_id().clone())),
+    (FIRST, |_| {
+        assert!(IdAllocator::with_held(0, 9, &[1]).is_ok())
+    }),
+    (FIRST, |_| {
         let mut ids = IdAllocator::new(0, 9).expect("ids");
         assert!(ids.allocate_in(5..=9).is_ok() && ids.allocate_exact(3).is_ok())
     }),
@@ -213,18 +218,18 @@ const ENDED: [(u64, EndedCall); 25] = [
         assert!(ids.allocate_ids(3).is_ok())
     }),
     (1, |_| assert!(DeviceManager::new(0, 0, 0, 64).is_ok())),
-    (1 + 3, |_| {
+    (1 + 3 * FIRST, |_| {
         reserve_and_release(|devices| devices.reserve(1, 1, FirstMatch).is_ok())
     }),
-    (1 + 3, |_| {
+    (1 + 3 * FIRST, |_| {
         let request = in_the_middle(1, FirstMatch);
         reserve_and_release(|devices| devices.reserve_constraint(request).is_ok())
     }),
-    (1 + 3, |_| {
+    (1 + 3 * FIRST, |_| {
         let (id, request) = (IdRequest::Lowest, in_the_middle(1, FirstMatch));
         reserve_and_release(|devices| devices.reserve_with_id(id, request).is_ok())
     }),
-    (2 * (1 + 2), |_| {
+    (2 * (1 + 2 * FIRST), |_| {
         let mut devices = DeviceManager::new(0, 0, 0, 64).expect("a manager");
         assert!(devices.reserve(1, 1, FirstMatch).is_ok());
         drop(devices.clone());
@@ -233,8 +238,8 @@ const ENDED: [(u64, EndedCall); 25] = [
         let layout = space.layout().named([(both()[0], "disk")]);
         drop(layout.clone());
     }),
-    // The values have a list, and their indexes have a chunk.
-    (1 + (1 + 1) + (1 + 1 + 1), |_| {
+    // The values have a list, and their indexes have a leaf.
+    (1 + (1 + FIRST) + (1 + 1 + FIRST), |_| {
         let mut map = RangeMap::new(0, 64).expect("a map");
         assert!(map.allocate(1, 1, FirstMatch, 'a').is_ok());
         drop(map.clone());
@@ -256,7 +261,7 @@ fn main() {
     items_without_memory();
     lists_have_no_spare_bytes();
     short_lists_take_few_bytes();
-    chunks_are_joined();
+    leaves_are_joined();
     ranges_take_few_bytes();
     processes_are_ended();
     println!("each allocation is counted, and failed in turn");
@@ -345,7 +350,7 @@ fn one_free_id() -> IdAllocator {
     ids
 }
 
-/// Makes one allocation each for the space, the devices, their starts and the freed ids.
+/// Makes an allocation for the space, and first entries of the devices, their starts and the freed ids.
 fn reserve_and_release(reserve: impl Fn(&mut DeviceManager) -> bool) {
     let mut devices = DeviceManager::new(0, 0, 0, 64).expect("a manager");
     assert!(reserve(&mut devices));
@@ -432,16 +437,10 @@ fn objects_stay_the_same() {
     assert_eq!(devices.slot(0).map(|range| range.start()), Some(34));
 }
 
-/// Checks that the free ids, which are one run, have memory for 8 runs and then for 64. Each call adds a run.
+/// Checks calls of which each adds a run to the free ids, until a leaf of 64 runs is split.
 fn memory_for_runs(mut ids: IdAllocator, call: fn(&mut IdAllocator, u32) -> Result<u32, TryError>) {
-    for id in (4..4 * 64).step_by(4).chain([600]) {
-        if id == 4 * 8 || id == 600 {
-            let refused = refusing(1, || call(&mut ids, id)).0;
-            assert_eq!(refused, Err(TryError::OutOfMemory));
-            unchanged_until_allowed(&mut ids, IdAllocator::clone, |ids| call(ids, id));
-        } else {
-            assert_eq!(refusing(1, || call(&mut ids, id)).0, Ok(id));
-        }
+    for id in (4..4 * 70).step_by(4).chain([600]) {
+        unchanged_until_allowed(&mut ids, IdAllocator::clone, |ids| call(ids, id));
     }
 }
 
@@ -469,7 +468,13 @@ fn items_without_memory() {
     let expect = |number, index, call: &dyn Fn() -> Result<(), ListError<TryError>>| {
         let error = TryError::OutOfMemory;
         let (answer, _) = refusing(number, call);
-        assert_eq!(answer, Err(ListError { index, error }), "{number}");
+        let conflict = None;
+        let failure = ListError {
+            index,
+            error,
+            conflict,
+        };
+        assert_eq!(answer, Err(failure), "{number}");
     };
     for (number, index) in (1..).zip([None, None, None, Some(1), Some(1)]) {
         let space = RefCell::new(full_leaf());
@@ -502,7 +507,11 @@ fn no_request_is_made() {
         assert_eq!(space.conflict(exact), Some(Conflict::Allocated(held[0])));
         assert_eq!(devices.conflict(exact), None);
         let error = Error::Overlap(held[0], held[1]);
-        let failure = ListError { index: None, error };
+        let failure = ListError {
+            index: None,
+            error,
+            conflict: None,
+        };
         assert!(write!(&mut [0; 500][..], "{failure:^300}{exact:>100.9}").is_ok());
         assert!(devices.devices().rev().eq([]) && devices.device_at(9).is_none());
         assert!(space.held_ranges_in(held[1]).rev().eq([held[1]]));
@@ -582,43 +591,44 @@ fn lists_have_no_spare_bytes() {
     let mut ids = IdAllocator::new(0, 2000).expect("ids");
     let (_, bytes) = peak_of(|| ids.allocate_ids(COUNT));
     assert_eq!(bytes, COUNT * size_of::<u32>());
-    // Skipped ids fill chunks of 1 KiB, which are in a list with an eighth more.
+    // Skipped ids are one run.
     let (_, bytes) = peak_of(|| ids.allocate_exact(2 * COUNT as u32));
-    let chunks = COUNT * size_of::<u32>();
-    assert!(bytes < chunks * 9 / 8, "{bytes} bytes");
+    assert!(bytes < 100, "{bytes} bytes");
     let (_, bytes) = peak_of(|| ids.clone());
-    assert!(bytes < chunks * 9 / 8, "{bytes} bytes");
-    // A copy has 20 bytes for each device in lists, 16 in a map and at most 18 in the tree.
+    assert!(bytes < 100, "{bytes} bytes");
+    // A copy has 40 bytes for each device in two lists, at most 2 for the leaves and nodes of each
+    // list, and at most 18 in the tree.
     let mut devices = DeviceManager::new(0, COUNT as u32, 0, size).expect("a manager");
     let mut reserve = |request: &Constraint| devices.reserve_constraint(*request).is_ok();
     assert!(requests.iter().all(&mut reserve));
     let (_, bytes) = peak_of(|| devices.clone());
-    assert!(bytes < 60 * COUNT, "{bytes} bytes");
+    assert!(bytes < 62 * COUNT, "{bytes} bytes");
 }
 
-/// Checks that the first entry of a list allocates memory for 8: of 24 bytes for devices, of 16 for their starts,
-/// of 8 for freed ids.
+/// Checks that the first entry of a list allocates a leaf of 24 bytes and memory for 4 entries: of 24 bytes for
+/// devices, of 16 for their starts, of 8 for freed ids.
 fn short_lists_take_few_bytes() {
     let (ids, bytes) = peak_of(one_free_id);
-    assert_eq!(bytes, 8 * 8);
+    assert_eq!(bytes, 24 + 4 * 8);
     let (_, bytes) = peak_of(|| ids.clone());
-    assert_eq!(bytes, 8 * 8);
+    assert_eq!(bytes, 24 + 8);
     let (_, bytes) =
         peak_of(|| reserve_and_release(|devices| devices.reserve(1, 1, FirstMatch).is_ok()));
-    assert_eq!(bytes, LEAF + 8 * (24 + 16 + 8));
+    assert_eq!(bytes, LEAF + 3 * 24 + 4 * (24 + 16 + 8));
 }
 
-/// Checks that chunks of freed ids are joined if both fit in half a chunk, when most of a thousand ids are
-/// allocated again. So the 63 others are in fewer than four chunks, each with at most 32 bytes in lists.
-fn chunks_are_joined() {
+/// Checks that a leaf with fewer than 16 runs of freed ids is joined with one next to it if both have at most 48, when
+/// most of a thousand ids are allocated again. So the 63 others are in two leaves or three, and a copy allocates each
+/// as for a first entry, and one node.
+fn leaves_are_joined() {
     let mut ids = IdAllocator::new(0, 2000).expect("ids");
     assert!(ids.allocate_ids(2000).is_ok());
     let mut even = (0..2000).step_by(2);
     assert!(even.all(|id| ids.free_id(id).is_ok()));
     let mut others = (0..2000).step_by(2).filter(|id| id % 32 != 0);
     assert!(others.all(|id| ids.allocate_exact(id).is_ok()));
-    let (_, bytes) = peak_of(|| ids.clone());
-    assert!(bytes < 4 * (64 * 8 + 32), "{bytes} bytes");
+    let (_, requests) = refusing(0, || ids.clone());
+    assert!(requests <= 3 * FIRST + 1, "{requests}");
 }
 
 /// Checks the bytes of a space for each of 10^5 ranges, side by side or with a gap after each. Then nine of

@@ -15,7 +15,7 @@ use refusing::{blocks, refusing};
 #[test]
 fn boxes() {
     let refused = refusing(1, || Box::new(Global, 7)).0.err().unwrap();
-    assert_eq!(refused.0, 7);
+    assert_eq!(refused.value, 7);
     let before = blocks();
     let (mut boxed, requests) = refusing(0, || Box::new(Global, 7).unwrap());
     *boxed += 1;
@@ -45,7 +45,7 @@ fn vectors() {
     let (mut pushed, mut inserted) = (Vec::new(Global), Vec::new(Global));
     let mut failures = 0;
     for value in 0..1000 {
-        let failed = |AllocFailed(back)| assert_eq!(back, value);
+        let failed = |AllocFailed { value: back }| assert_eq!(back, value);
         failures += until_allowed(|| pushed.push(value), failed).1;
         failures += until_allowed(|| inserted.insert(0, value), failed).1;
         assert!(inserted.capacity() <= inserted.len() * 9 / 8 + 4);
@@ -57,4 +57,21 @@ fn vectors() {
     assert_eq!((clone.capacity(), clone == inserted), (1000, true));
     let (empty, _) = until_allowed(|| Vec::<u64>::with_capacity(Global, 7), |_| {});
     assert_eq!((empty.capacity(), empty.len()), (7, 0));
+}
+
+/// Checks that a vector is divided and joined again, and that a failed allocation changes neither part.
+#[test]
+fn parts_of_vectors() {
+    let mut whole = Vec::new(Global);
+    let (_, _) = until_allowed(|| whole.extend_from_slice(&[0, 1, 2, 3, 4]), |_| {});
+    let (mut upper, failures) = until_allowed(|| whole.split_off(2), |_| {});
+    assert_eq!(
+        (failures, whole.as_slice(), upper.as_slice()),
+        (1, &[0, 1][..], &[2, 3, 4][..])
+    );
+    let (_, failures) = until_allowed(|| upper.append(&mut whole), |_| {});
+    assert_eq!(
+        (failures, whole.as_slice(), upper.as_slice()),
+        (1, &[][..], &[2, 3, 4, 0, 1][..])
+    );
 }

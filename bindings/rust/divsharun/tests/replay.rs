@@ -408,7 +408,8 @@ fn results_are_written_together_and_without_memory() {
 /// on. Commas stand for the ends of lines.
 ///
 /// A space is one leaf, and a split of a leaf with room allocates nothing. A manager makes lists of devices and of
-/// their starts, and a list of freed ids as an allocator of ids does.
+/// their starts, and a list of freed ids as an allocator of ids does. The first entry of a list allocates a leaf, and
+/// memory for its entries.
 const REFUSED: [(&str, &[&str]); 3] = [
     (
         "space 16 4,first 1 1,first 3 1,free 16 16,",
@@ -422,6 +423,7 @@ const REFUSED: [(&str, &[&str]); 3] = [
         &[
             "done,id 5,id 6,id 5,no,error already-released 5,id 5,id 7,",
             "done,id 5,id 6,error memory,yes,id 5,id 5,id 7,",
+            "done,id 5,id 6,error memory,yes,id 5,id 5,id 7,",
         ],
     ),
     (
@@ -431,6 +433,9 @@ const REFUSED: [(&str, &[&str]); 3] = [
             "error memory,error no-manager,error no-manager,error no-manager,",
             "done,error memory,error never-allocated 0,device 0 0 3,",
             "done,error memory,error never-allocated 0,device 0 0 3,",
+            "done,error memory,error never-allocated 0,device 0 0 3,",
+            "done,error memory,error never-allocated 0,device 0 0 3,",
+            "done,device 0 0 3,error memory,device 1 4 7,",
             "done,device 0 0 3,error memory,device 1 4 7,",
         ],
     ),

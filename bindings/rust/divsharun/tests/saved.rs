@@ -738,7 +738,7 @@ fn lists_are_refused_at_their_first_fault() {
     assert!(packed::from_bytes::<IdAllocator>(counted(bytes, &asked)).is_err());
     assert_eq!(asked.get(), 21 + 8);
 
-    // The announced length allocates nothing. The first id allocates the first chunk of freed ids.
+    // The announced length allocates nothing. The first id allocates the first leaf of freed ids.
     asked.set(0);
     let bytes = counted(ids_freed(u64::MAX, 0..3), &asked);
     let (read, most) = peak_of(|| packed::from_bytes::<IdAllocator>(bytes).map(drop));

@@ -403,6 +403,7 @@ fn windows_of_one_call_are_separate() {
     let failure = ListError {
         index: Some(1),
         error: ResourceNotAvailable,
+        conflict: None,
     };
     assert_eq!(space.allocate_all(&failing), Err(failure));
     let answer = space.try_allocate_all(&failing);

@@ -224,15 +224,17 @@ fn plug_cards(shared: &Shared) -> Result<PciDevice> {
     println!("plugged in again, with the same ranges");
 
     // The guest programs the second BAR. First another BAR is in the way, then the start is misaligned,
-    // and then it is above 4 GiB.
+    // and then it is above 4 GiB, where it is free.
     for (start, error) in [
         (card.bars[0].start(), Error::ResourceNotAvailable),
         (0xe000_0800, Error::UnalignedAddress),
-        (again.bars[2].end() + 1, Error::ResourceNotAvailable),
+        (200 * GIB, Error::ResourceNotAvailable),
     ] {
         let moved = shared.with(|resources| resources.move_bar(&mut again, 1, start));
         assert_eq!((moved, again.bars[1]), (Err(error), card.bars[1]));
     }
+    let is_free = |resources: &mut Resources| Ok(resources.addresses.gap_at(200 * GIB).is_some());
+    assert_eq!(shared.with(is_free), Ok(true));
     shared.with(|resources| resources.move_bar(&mut again, 1, 0xe000_0000))?;
     println!("moved to {}", again.bars[1]);
 

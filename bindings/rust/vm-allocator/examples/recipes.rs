@@ -92,9 +92,15 @@ fn blocks_of_vectors() -> Result<()> {
 /// A snapshot is restored. The strict reader reads what this crate saved.
 #[cfg(feature = "serde")]
 fn snapshot(space: &AddressAllocator) {
+    type Saved = vm_allocator::Strict<AddressAllocator>;
+
     let text = serde_json::to_string(space).expect("it is written");
-    let restored: vm_allocator::Strict<_> = serde_json::from_str(&text).expect("it is read");
+    let restored: Saved = serde_json::from_str(&text).expect("it is read");
     assert_eq!(*restored, *space);
+
+    // A missing tree is an error.
+    let lost = r#"{"address_space":{"start":0,"end":9},"interval_tree":{"root":null}}"#;
+    assert!(serde_json::from_str::<Saved>(lost).is_err());
 }
 
 #[cfg(not(feature = "serde"))]

@@ -2,8 +2,18 @@
 //! counts.
 //!
 //! A gap is a run of free addresses with no free address next to it.
-ghost use Rattle.std.specs.Prelude.{◌≡◌, length};
-ghost use Rattle.vm_addresses.specs.Queries.{gaps_of, longest_of, count_of, IsGapAt, meeting};
+ghost use Rattle.std.specs.Prelude.{◌≡◌, None, length};
+ghost use Rattle.vm_addresses.specs.Queries.{
+  gaps_of,
+  longest_of,
+  longest_part,
+  longest_of_parts,
+  longer_part,
+  count_if,
+  count_of,
+  IsGapAt,
+  meeting,
+};
 ghost use Rattle.vm_addresses.specs.Allocator.{state_of};
 
 use super::AddressAllocator;
@@ -69,6 +79,24 @@ impl AddressAllocator {
         self.tree.longest_gap()
     }
 
+    /// Returns the longest part of a gap that lies in `window`, the lowest of them if several are as long, or
+    /// `None` if no address of the window is free.
+    ///
+    /// A request at alignment 1 in this window fits if and only if its size is at most the length of this part.
+    /// It reads each gap of the window and does not allocate.
+    #[tactic(auto, using(crate::proofs::Walking::LongestParts::longest_length))]
+    pub fn longest_gap_in(&self, window: &RangeInclusive) -> Option<RangeInclusive>
+        ensures part { result ≡ longest_of_parts window.now None (meeting window.now (gaps_of (state_of self.now))) }
+        ensures length { count_if result ≡ longest_part window.now (gaps_of (state_of self.now)) }
+    {
+        let mut gaps = self.gaps_in(window);
+        let mut longest = None;
+        while let Some(gap) = gaps.next() {
+            longest = longer_part(window, longest, &gap);
+        }
+        longest
+    }
+
     /// Returns the number of gaps.
     ///
     /// It takes constant time and does not allocate.
@@ -87,5 +115,24 @@ impl AddressAllocator {
         ensures { result ≡ count_of (gaps_of (state_of self.now)) }
     {
         self.free_len
+    }
+}
+
+/// Returns the part of `gap` in the window if it is longer than `longest`, and otherwise `longest`.
+fn longer_part(
+    window: &RangeInclusive,
+    longest: Option<RangeInclusive>,
+    gap: &RangeInclusive,
+) -> Option<RangeInclusive>
+    ensures { result ≡ longer_part window.now longest gap.now }
+{
+    let (start, end) = (window.start().max(gap.start()), window.end().min(gap.end()));
+    if end < start {
+        return longest;
+    }
+    let part = RangeInclusive::between(start, end);
+    match longest {
+        Some(longest) if part.len() <= longest.len() => Some(longest),
+        _ => Some(part),
     }
 }

@@ -371,7 +371,7 @@ impl AddressAllocator {
 /// Returns the range of a request at the place in the gap that its policy chooses, or `None` if the gap has
 /// no place for it.
 #[tactic(auto, using(crate::proofs::Moving::Places::finding))]
-fn place_in(gap: &RangeInclusive, request: Constraint) -> Option<RangeInclusive>
+pub(super) fn place_in(gap: &RangeInclusive, request: Constraint) -> Option<RangeInclusive>
     ensures found { FindsPlaceIn gap.now request result }
     ensures valid { IsRequest request }
 {
@@ -382,7 +382,7 @@ fn place_in(gap: &RangeInclusive, request: Constraint) -> Option<RangeInclusive>
 
 /// Returns the ends of the part of a gap that lies in the window. If there is none, the first is above the
 /// second.
-fn ends_in(gap: &RangeInclusive, window: Option<RangeInclusive>) -> (u64, u64)
+pub(super) fn ends_in(gap: &RangeInclusive, window: Option<RangeInclusive>) -> (u64, u64)
     ensures ends { part_in window gap.now ≡ record { start = result.0; end = result.1 } }
     ensures range { IsRange gap.now.start gap.now.end }
 {

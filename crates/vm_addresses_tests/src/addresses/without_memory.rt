@@ -39,6 +39,17 @@ fn look_up_held(rt: &impl Abort, space: &AddressAllocator) {
     let request = Exact(8, 1, 4).request().expect(rt, "it is a request");
     let conflict = Some(Conflict::Allocated(range(rt, 6, 7)));
     expect_eq(rt, space.conflict(request), conflict, request);
+    let taken = space.peek(request);
+    expect_eq(rt, taken, Err(Error::ResourceNotAvailable), request);
+    for (request, start) in &[(First(2, 2), 0), (Last(2, 4), 12), (Exact(2, 1, 4), 4)] {
+        let request = request.request().expect(rt, "it is a request");
+        expect_eq(
+            rt,
+            space.peek(request),
+            Ok(range(rt, *start, *start + 1)),
+            request,
+        );
+    }
 }
 
 /// Makes the calls that look up gaps: there are four.
@@ -54,6 +65,8 @@ fn look_up_gaps(rt: &impl Abort, space: &AddressAllocator) {
         Some(range(rt, 8, 9)),
         "the gap between two ranges",
     );
+    let longest = space.longest_gap_in(&range(rt, 0, 13));
+    expect_eq(rt, longest, Some(range(rt, 0, 1)), "the lowest of four");
     let numbers = (space.longest_gap(), space.free_len(), space.gap_count());
     expect_eq(rt, numbers, (4, 10, 4), "the longest gap and all gaps");
 }

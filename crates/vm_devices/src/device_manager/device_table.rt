@@ -10,7 +10,7 @@ use crate::device_slot::DeviceSlot;
 use std::alloc::{AllocError, Global};
 use std::marker::Model;
 use vm_addresses::RangeInclusive;
-use vm_chunks::{Entry, Iter, KeyedList};
+use vm_list::{Iter, Keyed, KeyedList};
 
 /// The start of the range of a device, and the id of the device.
 #[derive(Clone, Copy, Debug)]
@@ -19,7 +19,7 @@ struct DeviceStart {
     id: u32,
 }
 
-impl Entry for DeviceStart {
+impl Keyed for DeviceStart {
     ghost key_of = { λ s. s.start };
 
     /// Returns the start.
@@ -57,12 +57,12 @@ impl Model for DeviceTable {
 impl DeviceTable {
     /// Creates a table without devices. It does not allocate.
     #[tactic(auto, using(crate::proofs::Tables::no_starts))]
-    pub(super) fn new(alloc: Global) -> DeviceTable
+    pub(super) fn new() -> DeviceTable
         ensures { result ≡ map.empty }
     {
         DeviceTable {
-            slots: KeyedList::new(alloc),
-            starts: KeyedList::new(alloc),
+            slots: KeyedList::new(),
+            starts: KeyedList::new(),
         }
     }
 
@@ -134,7 +134,7 @@ impl DeviceTable {
         self.starts.insert(alloc, at)?;
         if let Err(failed) = self.slots.insert(alloc, slot) {
             self.starts.remove(start);
-            return Err(failed);
+            return Err(failed.into());
         }
         Ok(())
     }
@@ -200,7 +200,7 @@ impl<'a> Iterator for Devices<'a> {
     fn next(&mut self) -> Option<DeviceSlot> {
         let device = self.slots.next()?;
         self.left -= 1;
-        Some(device)
+        Some(*device)
     }
 
     /// Returns the number of devices that are left, as both bounds.
@@ -220,7 +220,7 @@ impl<'a> DoubleEndedIterator for Devices<'a> {
     fn next_back(&mut self) -> Option<DeviceSlot> {
         let device = self.slots.next_back()?;
         self.left -= 1;
-        Some(device)
+        Some(*device)
     }
 }
 

@@ -4,7 +4,7 @@ use Rattle.std.specs.Option.{SomeIff}
 use Rattle.std.specs.List.{list_any}
 use Rattle.std.specs.Ordering.{nat_cmp, eq_by_cmp}
 use Rattle.std.specs.BTreeSet.{BTreeSet, contains, IsEmpty}
-use Rattle.vm_chunks.specs.Runs.{Removes, IsLowestFrom, HasNoneFrom}
+use Rattle.vm_list.specs.Runs.{Removes, IsLowestFrom, HasNoneFrom}
 use Rattle.vm_ids.specs.Ids.{
   MAX_ID,
   IdState,

@@ -41,7 +41,7 @@ use Rattle.std.specs.Ordering.{nat_cmp, eq_by_cmp}
 use Rattle.std.specs.BTreeSet.{BTreeSet, contains}
 use Rattle.std.specs.List.{list_any, range_with_len}
 use Rattle.std.proofs.lemmas.List.Folds.{list_any-append}
-use Rattle.vm_chunks.specs.Runs.{Removes, IsInside}
+use Rattle.vm_list.specs.Runs.{Removes, IsInside}
 use Rattle.vm_ids.specs.Ids.{MAX_ID, IdState, IsOfRange, WasEverAllocated, IsHeld, IsNotHeld, IsIdState, holding_id, bound_of, ids_of, IsNext, AreIds}
 use Rattle.vm_ids.specs.IdRequests.{IsFreed, NeedsMemory, HoldsId, Peeks, AllocatesPeeked, AllocatesExactId}
 use Rattle.vm_ranges.specs.declared.error.Error.{Error}

@@ -2,7 +2,7 @@
 use Rattle.std.proofs.Common.{◌≡◌, ℕ, ◌<◌, ◌≤◌, false, refl, sym, ap, ◌∙◌, arith, inl, inr, Option, Ok, Err, IsTrue, subst}
 use Rattle.std.specs.Ordering.{nat_cmp}
 use Rattle.std.specs.BTreeSet.{BTreeSet, contains}
-use Rattle.vm_chunks.specs.Runs.{Adds}
+use Rattle.vm_list.specs.Runs.{Adds}
 use Rattle.vm_ids.specs.Ids.{IdState, IsOfRange, WasEverAllocated, releasing_id, FreesId, bound_of, ids_of, AreIds}
 use Rattle.vm_ranges.specs.declared.error.Error.TheVariants.{OutOfRange, AlreadyReleased, NeverAllocated, OutOfMemory}
 use Rattle.vm_ids.proofs.Ids.IdSets.{tests, same_state}

@@ -4,7 +4,7 @@ use Rattle.std.proofs.Math.Seq.{drop-append-add}
 use Rattle.std.proofs.lemmas.List.{append-nil, append_assoc, length-append, take-append-le}
 use Rattle.std.proofs.lemmas.List.FromFn.{length-range_with_len}
 use Rattle.std.proofs.lemmas.List.Elements.{Contains-get_or, filter-append, All-nil, All-cons, All-head, All-tail, All-push}
-use Rattle.vm_chunks.proofs.Runs.{in_run_test}
+use Rattle.vm_list.proofs.Runs.{in_run_test}
 use Rattle.std.proofs.lemmas.List.Folds.{list_any-append}
 use Rattle.std.proofs.lemmas.Map.Keys.{below_from_sorted}
 use Rattle.std.proofs.lemmas.Map.Made.{is_member-Decides}
@@ -16,8 +16,8 @@ use Rattle.std.specs.BTreeSet.{BTreeSet, IsOrdered}
 use Rattle.std.specs.FinSet as set
 use Rattle.vm_ids.specs.Ids.{IdState, IsHeld, held_ids, held_count, IsIdState, bound_of, ids_of, AreIds}
 use Rattle.vm_ids.specs.Checks.IdQueries.{freed_from, freed_to, ids_left, held_end, held_start, AscendWithin, AreIdsLeft, IsFilled, AreFilled, Begins, Ends, runs_left}
-use Rattle.vm_chunks.specs.Runs.{ids_of_run}
-use Rattle.vm_chunks.specs.declared.id_set.Run.{Run}
+use Rattle.vm_list.specs.Runs.{ids_of_run}
+use Rattle.vm_list.specs.declared.id_set.Run.{Run}
 use Rattle.std.proofs.lemmas.Bool.{cases_lt}
 use Rattle.std.proofs.lemmas.Grind.{flat_map-append}
 use Rattle.vm_ids.specs.Facts.{HeldIdsAreListed}

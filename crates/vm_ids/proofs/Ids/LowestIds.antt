@@ -4,7 +4,7 @@ use Rattle.std.specs.BTreeSet.{BTreeSet, contains}
 use Rattle.vm_ids.specs.Ids.{IdState, holding_id, bound_of, ids_of, AreIds}
 use Rattle.vm_ids.specs.declared.id_request.IdRequest.TheVariants.{LowestIn}
 use Rattle.vm_ids.specs.IdRequests.{Peeks, NeedsMemory, HoldsId, AllocatesPeeked, AllocatesExactId, IsLowestNotHeldIn, IsNoneNotHeldIn, AllocatesIdIn}
-use Rattle.vm_chunks.specs.Runs.{IsLowestFrom, HasNoneFrom}
+use Rattle.vm_list.specs.Runs.{IsLowestFrom, HasNoneFrom}
 use Rattle.vm_ranges.specs.declared.error.Error.{Error}
 use Rattle.vm_ids.proofs.Ids.IdSets.{held_test, bound_fits, bound_above}
 

@@ -2,8 +2,8 @@
 use Rattle.std.specs.Prelude.{◌≡◌, ℕ, ◌+◌, ◌-◌, ◌^◌, ◌<◌, ◌≤◌, min, max, not, List, [], ◌∷◌, ◌++◌, length, Option, Some, None, IfSome, option_to_list}
 use Rattle.std.specs.List.{All, filter, flat_map, list_any, range_with_len}
 use Rattle.std.specs.Ordering.{nat_cmp, eq_by_cmp}
-use Rattle.vm_chunks.specs.Runs.{ids_of_run}
-use Rattle.vm_chunks.specs.declared.id_set.Run.{Run}
+use Rattle.vm_list.specs.Runs.{ids_of_run}
+use Rattle.vm_list.specs.declared.id_set.Run.{Run}
 use Rattle.vm_ids.specs.Ids.{IdState}
 
 -- The freed ids that the walk from below did not visit: those of the next run, and of the runs above it.

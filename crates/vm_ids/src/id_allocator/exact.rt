@@ -16,7 +16,7 @@ ghost use Rattle.vm_ids.specs.IdRequests.{
 
 use super::{IdAllocator, bound_of};
 use std::alloc::AllocError;
-use vm_chunks::IdSet;
+use vm_list::IdSet;
 use vm_ranges::{Error, Result};
 
 impl IdAllocator {

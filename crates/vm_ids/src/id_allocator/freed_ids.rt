@@ -3,14 +3,15 @@
 //! It walks over the runs of the freed ids, and visits no other ids.
 ghost use Rattle.std.specs.Prelude.{◌≡◌, ◌≤◌, [], ◌∷◌, ◌++◌, None, IfSome, option_to_list};
 ghost use Rattle.std.specs.List.{All, flat_map};
-ghost use Rattle.vm_chunks.specs.Runs.{ids_of_run};
+ghost use Rattle.vm_list.specs.Runs.{ids_of_run};
 ghost use Rattle.vm_ids.specs.Checks.IdQueries.{IsFilled, Begins, Ends, runs_left};
 ghost use Rattle.std.specs.Iterator.{YieldsFirst, YieldsLast, item_count};
 ghost use Rattle.vm_ids.specs.Ids.{freed_ids};
 
 use super::IdAllocator;
+use super::held_ids::{last_run, next_run};
 use std::marker::Model;
-use vm_chunks::{Iter, Run};
+use vm_list::{Iter, Run};
 
 /// An iterator over the ids that were allocated and are free now, from the lowest to the highest, or
 /// backwards. It does not allocate.
@@ -28,7 +29,7 @@ pub struct FreedIds<'a> {
 impl<'a> Model for FreedIds<'a> {
     ghost use Rattle.std.specs.Prelude.{ℕ, List};
     ghost use Rattle.std.specs.List.{All, flat_map};
-    ghost use Rattle.vm_chunks.specs.Runs.{ids_of_run};
+    ghost use Rattle.vm_list.specs.Runs.{ids_of_run};
     ghost use Rattle.vm_ids.specs.Checks.IdQueries.{IsFilled, runs_left};
 
     ghost Value = { List ℕ };
@@ -72,7 +73,7 @@ fn take_first(first: Option<Run>, runs: &mut Iter<'_, Run>, last: &mut Option<Ru
 {
     match first {
         Some(run) => Some(run),
-        None => match runs.next() {
+        None => match next_run(runs) {
             Some(run) => Some(run),
             None => last.take(),
         },
@@ -86,7 +87,7 @@ fn take_last(first: &mut Option<Run>, runs: &mut Iter<'_, Run>, last: Option<Run
 {
     match last {
         Some(run) => Some(run),
-        None => match runs.next_back() {
+        None => match last_run(runs) {
             Some(run) => Some(run),
             None => first.take(),
         },

@@ -10,7 +10,7 @@ ghost use Rattle.vm_ids.specs.Checks.FreedChecks.{AreEndsOf, AddsAtEnd, AreWithi
 use crate::id_allocator::{IdAllocator, bound_of};
 use std::alloc::Global;
 use std::marker::Model;
-use vm_chunks::IdSet;
+use vm_list::IdSet;
 use vm_ranges::{Condition, SavedError};
 
 /// The freed ids of a saved id allocator that were read so far, in ascending order.

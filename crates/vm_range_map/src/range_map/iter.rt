@@ -10,7 +10,7 @@ use super::value_table::ValueAt;
 use crate::valued_range::ValuedRange;
 use std::marker::Model;
 use vm_addresses::Ranges;
-use vm_chunks::Iter;
+use vm_list::Iter;
 
 /// An iterator over the allocated ranges with their values, from the lowest to the highest, or backwards. It has
 /// an exact length, and does not allocate.

@@ -5,7 +5,7 @@ ghost use Rattle.vm_range_map.specs.Checks.{entry_of};
 
 use std::alloc::{AllocError, Global};
 use std::marker::Model;
-use vm_chunks::{Entry, Iter, KeyedList};
+use vm_list::{Iter, Keyed, KeyedList};
 
 /// A value, and the start of its range.
 #[derive(Clone, Copy)]
@@ -14,7 +14,7 @@ pub(super) struct ValueAt {
     pub(super) value: u64,
 }
 
-impl Entry for ValueAt {
+impl Keyed for ValueAt {
     ghost key_of = { λ e. e.start };
 
     /// Returns the start of the range.
@@ -47,11 +47,11 @@ impl Model for ValueTable {
 
 impl ValueTable {
     /// Creates a table without values. It does not allocate.
-    pub(super) fn new(alloc: Global) -> ValueTable
+    pub(super) fn new() -> ValueTable
         ensures { result ≡ map.empty }
     {
         ValueTable {
-            entries: KeyedList::new(alloc),
+            entries: KeyedList::new(),
         }
     }
 
@@ -88,7 +88,8 @@ impl ValueTable {
         ensures inserted { OnOk result (self.new ≡ map.insert self.old start value) }
         ensures err { OnErr result (self.new ≡ self.old) }
     {
-        self.entries.insert(alloc, ValueAt { start, value })
+        self.entries.insert(alloc, ValueAt { start, value })?;
+        Ok(())
     }
 
     /// Removes the value at a start, and returns it. It does not allocate.

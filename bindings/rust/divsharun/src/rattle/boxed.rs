@@ -14,13 +14,20 @@ impl<T> Box<T> {
     pub fn new(_alloc: Global, value: T) -> Result<Self, AllocFailed<T>> {
         let mut one = alloc::vec::Vec::new();
         if one.try_reserve_exact(1).is_err() {
-            return Err(AllocFailed(value));
+            return Err(AllocFailed { value });
         }
         one.push(value);
         match one.into_boxed_slice().try_into() {
             Ok(one) => Ok(Box(one)),
             Err(_) => unreachable!(),
         }
+    }
+
+    /// Returns the value, and frees the box.
+    #[must_use]
+    pub fn into_inner(one: Self) -> T {
+        let [value] = *one.0;
+        value
     }
 }
 

@@ -22,7 +22,10 @@ pub struct AllocError;
 
 /// An allocation failed. The error returns the value that it was for.
 #[derive(Debug)]
-pub struct AllocFailed<T>(pub T);
+pub struct AllocFailed<T> {
+    /// The value that there was no memory for.
+    pub value: T,
+}
 
 impl<T> From<AllocFailed<T>> for AllocError {
     fn from(_: AllocFailed<T>) -> AllocError {

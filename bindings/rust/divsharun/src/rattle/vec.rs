@@ -24,7 +24,7 @@ impl<T> Vec<T> {
     /// Appends a value, or returns it if the allocation fails.
     pub fn push(&mut self, value: T) -> Result<(), AllocFailed<T>> {
         if self.0.try_reserve(1).is_err() {
-            return Err(AllocFailed(value));
+            return Err(AllocFailed { value });
         }
         self.0.push(value);
         Ok(())
@@ -40,7 +40,7 @@ impl<T> Vec<T> {
         if self.0.len() == self.0.capacity() {
             let more = self.0.len() / 8 + 4;
             if self.0.try_reserve_exact(more).is_err() {
-                return Err(AllocFailed(value));
+                return Err(AllocFailed { value });
             }
         }
         self.0.insert(place, value);
@@ -50,6 +50,24 @@ impl<T> Vec<T> {
     /// Allocates capacity for this number of further values.
     pub fn reserve(&mut self, more: usize) -> Result<(), AllocError> {
         self.0.try_reserve(more).map_err(|_| AllocError)
+    }
+
+    /// Moves all values of another vector to the end of this one, or none if the allocation fails.
+    pub fn append(&mut self, other: &mut Self) -> Result<(), AllocError> {
+        self.reserve(other.len())?;
+        self.0.append(&mut other.0);
+        Ok(())
+    }
+
+    /// Moves the values starting at `place` to a vector of their own, or none if the allocation fails.
+    ///
+    /// # Panics
+    ///
+    /// If `place` is past the end.
+    pub fn split_off(&mut self, place: usize) -> Result<Self, AllocError> {
+        let mut upper = Vec::with_capacity(Global, self.len() - place)?;
+        upper.0.extend(self.0.drain(place..));
+        Ok(upper)
     }
 
     /// Appends copies of the values, or none if the allocation fails.

@@ -139,7 +139,7 @@ fn pair_devices(
     if held_ids != count || held_ranges != count {
         return Err(SavedError::Violated(Condition::Devices));
     }
-    let mut table = DeviceTable::new(alloc);
+    let mut table = DeviceTable::new();
     for device in devices {
         if !can_be_inserted(ids, space, &table, device) {
             return Err(SavedError::Violated(Condition::Devices));

@@ -18,4 +18,4 @@ pub use crate::proved::vm_ranges::{
 pub use crate::proved::vm_saved_trees::{ReadNodes, Side, WrittenBlocks, WrittenNode, WrittenTree};
 pub use address_allocator::blocks::AllBlocks;
 pub use address_allocator::ranges::{Ranges, RangesIn};
-pub use address_allocator::{AddressAllocator, Conflict};
+pub use address_allocator::{AddressAllocator, Conflict, ListConflict};

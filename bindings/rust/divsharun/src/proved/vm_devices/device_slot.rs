@@ -2,7 +2,7 @@
 
 //! The id and the range of a device.
 use crate::proved::vm_addresses::RangeInclusive;
-use crate::proved::vm_chunks::Entry;
+use crate::proved::vm_list::Keyed;
 
 /// The id and the range of addresses of a device.
 #[derive(Clone, Copy, Debug, PartialEq, Eq)]
@@ -11,7 +11,7 @@ pub struct DeviceSlot {
     pub range: RangeInclusive,
 }
 
-impl Entry for DeviceSlot {
+impl Keyed for DeviceSlot {
     /// Returns the id.
     fn key(&self) -> u64 {
         u64::from(self.id)

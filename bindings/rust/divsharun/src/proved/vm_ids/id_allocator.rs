@@ -5,7 +5,7 @@
 //! The ids below the next id were allocated at some time. A set contains the ids that were freed
 //! since, as runs of ids that follow each other. Freeing, cloning and skipping ids allocate memory.
 
-use crate::proved::vm_chunks::IdSet;
+use crate::proved::vm_list::IdSet;
 use crate::proved::vm_ranges::{Error, Result};
 use crate::rattle::Global;
 

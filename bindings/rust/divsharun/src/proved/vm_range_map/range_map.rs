@@ -41,7 +41,7 @@ impl RangeMap {
         let addresses = AddressAllocator::new(alloc, base, size)?;
         Ok(RangeMap {
             addresses,
-            values: ValueTable::new(alloc),
+            values: ValueTable::new(),
         })
     }
 

@@ -1,7 +1,7 @@
 use Rattle.std.proofs.Common.{ap, ◌∙◌}
 use Rattle.std.proofs.lemmas.List.{append-nil}
 use Rattle.std.specs.List.{flat_map}
-use Rattle.vm_chunks.specs.Runs.{ids_of_run}
+use Rattle.vm_list.specs.Runs.{ids_of_run}
 use Rattle.vm_ids.proofs.Ids.FreedLists.{keys_listed}
 use Rattle.vm_ids.proofs.id_allocator.IdAllocator.freed_ids.Goals as goal
 

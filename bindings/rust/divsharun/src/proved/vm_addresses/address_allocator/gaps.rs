@@ -56,6 +56,20 @@ impl AddressAllocator {
         self.tree.longest_gap()
     }
 
+    /// Returns the longest part of a gap that lies in `window`, the lowest of them if several are as long, or
+    /// `None` if no address of the window is free.
+    ///
+    /// A request at alignment 1 in this window fits if and only if its size is at most the length of this part.
+    /// It reads each gap of the window and does not allocate.
+    pub fn longest_gap_in(&self, window: &RangeInclusive) -> Option<RangeInclusive> {
+        let mut gaps = self.gaps_in(window);
+        let mut longest = None;
+        while let Some(gap) = gaps.next() {
+            longest = longer_part(window, longest, &gap);
+        }
+        longest
+    }
+
     /// Returns the number of gaps.
     ///
     /// It takes constant time and does not allocate.
@@ -68,5 +82,22 @@ impl AddressAllocator {
     /// It takes constant time and does not allocate.
     pub fn free_len(&self) -> u64 {
         self.free_len
+    }
+}
+
+/// Returns the part of `gap` in the window if it is longer than `longest`, and otherwise `longest`.
+fn longer_part(
+    window: &RangeInclusive,
+    longest: Option<RangeInclusive>,
+    gap: &RangeInclusive,
+) -> Option<RangeInclusive> {
+    let (start, end) = (window.start().max(gap.start()), window.end().min(gap.end()));
+    if end < start {
+        return longest;
+    }
+    let part = RangeInclusive::between(start, end);
+    match longest {
+        Some(longest) if part.len() <= longest.len() => Some(longest),
+        _ => Some(part),
     }
 }

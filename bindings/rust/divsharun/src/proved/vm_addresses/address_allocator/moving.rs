@@ -267,7 +267,7 @@ impl AddressAllocator {
 
 /// Returns the range of a request at the place in the gap that its policy chooses, or `None` if the gap has
 /// no place for it.
-fn place_in(gap: &RangeInclusive, request: Constraint) -> Option<RangeInclusive> {
+pub(super) fn place_in(gap: &RangeInclusive, request: Constraint) -> Option<RangeInclusive> {
     let (low, high) = ends_in(gap, request.window());
     let start = start_between(low, high, request)?;
     Some(RangeInclusive::between(start, start + (request.size() - 1)))
@@ -275,7 +275,7 @@ fn place_in(gap: &RangeInclusive, request: Constraint) -> Option<RangeInclusive>
 
 /// Returns the ends of the part of a gap that lies in the window. If there is none, the first is above the
 /// second.
-fn ends_in(gap: &RangeInclusive, window: Option<RangeInclusive>) -> (u64, u64) {
+pub(super) fn ends_in(gap: &RangeInclusive, window: Option<RangeInclusive>) -> (u64, u64) {
     match window {
         None => (gap.start(), gap.end()),
         Some(window) => (window.start().max(gap.start()), window.end().min(gap.end())),

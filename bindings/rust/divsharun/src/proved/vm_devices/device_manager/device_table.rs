@@ -3,8 +3,8 @@
 //! The table of the devices. It finds a range by its id, and an id by the start of its range.
 
 use crate::proved::vm_addresses::RangeInclusive;
-use crate::proved::vm_chunks::{Entry, Iter, KeyedList};
 use crate::proved::vm_devices::device_slot::DeviceSlot;
+use crate::proved::vm_list::{Iter, Keyed, KeyedList};
 use crate::rattle::{AllocError, Global};
 
 /// The start of the range of a device, and the id of the device.
@@ -14,7 +14,7 @@ struct DeviceStart {
     id: u32,
 }
 
-impl Entry for DeviceStart {
+impl Keyed for DeviceStart {
     /// Returns the start.
     fn key(&self) -> u64 {
         self.start
@@ -32,10 +32,10 @@ pub(super) struct DeviceTable {
 
 impl DeviceTable {
     /// Creates a table without devices. It does not allocate.
-    pub(super) fn new(alloc: Global) -> DeviceTable {
+    pub(super) fn new() -> DeviceTable {
         DeviceTable {
-            slots: KeyedList::new(alloc),
-            starts: KeyedList::new(alloc),
+            slots: KeyedList::new(),
+            starts: KeyedList::new(),
         }
     }
 
@@ -87,7 +87,7 @@ impl DeviceTable {
         self.starts.insert(alloc, at)?;
         if let Err(failed) = self.slots.insert(alloc, slot) {
             self.starts.remove(start);
-            return Err(failed);
+            return Err(failed.into());
         }
         Ok(())
     }
@@ -130,7 +130,7 @@ impl<'a> Iterator for Devices<'a> {
     fn next(&mut self) -> Option<DeviceSlot> {
         let device = self.slots.next()?;
         self.left -= 1;
-        Some(device)
+        Some(*device)
     }
 
     /// Returns the number of devices that are left, as both bounds.
@@ -144,7 +144,7 @@ impl<'a> DoubleEndedIterator for Devices<'a> {
     fn next_back(&mut self) -> Option<DeviceSlot> {
         let device = self.slots.next_back()?;
         self.left -= 1;
-        Some(device)
+        Some(*device)
     }
 }
 

@@ -3,7 +3,7 @@
 //! The allocation of a given id, or of an id between two others.
 
 use super::{bound_of, IdAllocator};
-use crate::proved::vm_chunks::IdSet;
+use crate::proved::vm_list::IdSet;
 use crate::proved::vm_ranges::{Error, Result};
 use crate::rattle::AllocError;
 

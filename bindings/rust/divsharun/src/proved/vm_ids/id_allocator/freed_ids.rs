@@ -4,8 +4,9 @@
 //!
 //! It walks over the runs of the freed ids, and visits no other ids.
 
+use super::held_ids::{last_run, next_run};
 use super::IdAllocator;
-use crate::proved::vm_chunks::{Iter, Run};
+use crate::proved::vm_list::{Iter, Run};
 
 /// An iterator over the ids that were allocated and are free now, from the lowest to the highest, or
 /// backwards. It does not allocate.
@@ -43,7 +44,7 @@ impl<'a> DoubleEndedIterator for FreedIds<'a> {
 fn take_first(first: Option<Run>, runs: &mut Iter<'_, Run>, last: &mut Option<Run>) -> Option<Run> {
     match first {
         Some(run) => Some(run),
-        None => match runs.next() {
+        None => match next_run(runs) {
             Some(run) => Some(run),
             None => last.take(),
         },
@@ -54,7 +55,7 @@ fn take_first(first: Option<Run>, runs: &mut Iter<'_, Run>, last: &mut Option<Ru
 fn take_last(first: &mut Option<Run>, runs: &mut Iter<'_, Run>, last: Option<Run>) -> Option<Run> {
     match last {
         Some(run) => Some(run),
-        None => match runs.next_back() {
+        None => match last_run(runs) {
             Some(run) => Some(run),
             None => first.take(),
         },

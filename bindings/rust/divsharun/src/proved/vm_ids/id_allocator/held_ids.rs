@@ -6,7 +6,7 @@
 //! has its own iterator over the runs, so the ends share nothing but the bounds.
 
 use super::{bound_of, IdAllocator};
-use crate::proved::vm_chunks::{Iter, Run};
+use crate::proved::vm_list::{Iter, Run};
 
 /// An iterator over the allocated ids, from the lowest to the highest, or backwards. It does not
 /// allocate.
@@ -42,7 +42,7 @@ impl<'a> HeldIds<'a> {
             match self.next_freed {
                 Some(run) if u64::from(run.first) <= self.next => {
                     self.next = u64::from(run.last) + 1;
-                    self.next_freed = self.freed_above.next();
+                    self.next_freed = next_run(&mut self.freed_above);
                 }
                 _ => {
                     let step = rest.min(held_end(self.bound, self.next_freed) - self.next);
@@ -63,7 +63,7 @@ impl<'a> HeldIds<'a> {
             match self.last_freed {
                 Some(run) if self.bound <= u64::from(run.last) + 1 => {
                     self.bound = run.first.into();
-                    self.last_freed = self.freed_below.next_back();
+                    self.last_freed = last_run(&mut self.freed_below);
                 }
                 _ => {
                     let step = rest.min(self.bound - held_start(self.next, self.last_freed));
@@ -74,6 +74,16 @@ impl<'a> HeldIds<'a> {
             }
         }
     }
+}
+
+/// Takes the lowest run that is left.
+pub(super) fn next_run(runs: &mut Iter<'_, Run>) -> Option<Run> {
+    runs.next().copied()
+}
+
+/// Takes the highest run that is left.
+pub(super) fn last_run(runs: &mut Iter<'_, Run>) -> Option<Run> {
+    runs.next_back().copied()
 }
 
 /// Returns where the allocated ids below the next run of freed ids end.
@@ -101,7 +111,7 @@ impl<'a> Iterator for HeldIds<'a> {
             match self.next_freed {
                 Some(run) if u64::from(run.first) <= self.next => {
                     self.next = u64::from(run.last) + 1;
-                    self.next_freed = self.freed_above.next();
+                    self.next_freed = next_run(&mut self.freed_above);
                 }
                 _ => {
                     let id = self.next as u32;
@@ -122,7 +132,7 @@ impl<'a> DoubleEndedIterator for HeldIds<'a> {
             match self.last_freed {
                 Some(run) if self.bound <= u64::from(run.last) + 1 => {
                     self.bound = run.first.into();
-                    self.last_freed = self.freed_below.next_back();
+                    self.last_freed = last_run(&mut self.freed_below);
                 }
                 _ => {
                     self.bound -= 1;
@@ -141,9 +151,9 @@ impl IdAllocator {
     /// It passes a run of freed ids in one step, and does not allocate memory.
     pub fn held_ids(&self) -> HeldIds<'_> {
         let mut freed_above = self.freed_ids.runs();
-        let next_freed = freed_above.next();
+        let next_freed = next_run(&mut freed_above);
         let mut freed_below = self.freed_ids.runs();
-        let last_freed = freed_below.next_back();
+        let last_freed = last_run(&mut freed_below);
         HeldIds {
             next: u64::from(self.range_base),
             bound: bound_of(self.next_id, self.range_end),

@@ -5,8 +5,8 @@
 //! A reader adds the ids one by one to the set that becomes that of the allocator. It has no other
 //! list of them. The first and the last id show whether all of them are in the range.
 
-use crate::proved::vm_chunks::IdSet;
 use crate::proved::vm_ids::id_allocator::{bound_of, IdAllocator};
+use crate::proved::vm_list::IdSet;
 use crate::proved::vm_ranges::{Condition, SavedError};
 use crate::rattle::Global;
 

@@ -5,7 +5,7 @@
 use super::value_table::ValueAt;
 use super::RangeMap;
 use crate::proved::vm_addresses::Ranges;
-use crate::proved::vm_chunks::Iter;
+use crate::proved::vm_list::Iter;
 use crate::proved::vm_range_map::valued_range::ValuedRange;
 
 /// An iterator over the allocated ranges with their values, from the lowest to the highest, or backwards. It has

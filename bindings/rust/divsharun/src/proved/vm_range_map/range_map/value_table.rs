@@ -2,7 +2,7 @@
 
 //! The values of the allocated ranges, by the starts of the ranges.
 
-use crate::proved::vm_chunks::{Entry, Iter, KeyedList};
+use crate::proved::vm_list::{Iter, Keyed, KeyedList};
 use crate::rattle::{AllocError, Global};
 
 /// A value, and the start of its range.
@@ -12,7 +12,7 @@ pub(super) struct ValueAt {
     pub(super) value: u64,
 }
 
-impl Entry for ValueAt {
+impl Keyed for ValueAt {
     /// Returns the start of the range.
     fn key(&self) -> u64 {
         self.start
@@ -28,9 +28,9 @@ pub(super) struct ValueTable {
 
 impl ValueTable {
     /// Creates a table without values. It does not allocate.
-    pub(super) fn new(alloc: Global) -> ValueTable {
+    pub(super) fn new() -> ValueTable {
         ValueTable {
-            entries: KeyedList::new(alloc),
+            entries: KeyedList::new(),
         }
     }
 
@@ -58,7 +58,8 @@ impl ValueTable {
         start: u64,
         value: u64,
     ) -> Result<(), AllocError> {
-        self.entries.insert(alloc, ValueAt { start, value })
+        self.entries.insert(alloc, ValueAt { start, value })?;
+        Ok(())
     }
 
     /// Removes the value at a start, and returns it. It does not allocate.

@@ -1,16 +1,8 @@
 -- The id and the start of the device are new to the table. The prover does not rewrite the two lists as maps.
 use Rattle.std.proofs.Common.{ap, ◌∙◌}
 use Rattle.std.specs.FinMap as map
-use Rattle.vm_devices.proofs.Tables.{inserted_map, id_is_new, start_is_new, starts_with, starts_undone}
+use Rattle.vm_devices.proofs.Tables.{inserted_map, starts_with, starts_undone}
 use Rattle.vm_devices.proofs.device_manager.device_table.DeviceTable.add.Goals as goal
-
-pub insert-requires : goal.insert-requires
-insert-requires c =
-    let only = rw (← c.self.view_is, ← c.start-start.ensures.value) at c.requires.only in
-    start_is_new c.self.invariant c.args.slot.id c.start-start.result (rw (← c.self.view_is) at c.requires.new) only
-
-pub insert-requires-2 : goal.insert-requires-2
-insert-requires-2 c = id_is_new c.self.inside.slots c.args.slot.id (rw (← c.self.view_is) at c.requires.new)
 
 pub invariant_of-self-in-Err : goal.invariant_of-self-in-Err
 invariant_of-self-in-Err c =

@@ -1,15 +1,9 @@
 -- The range of the device starts elsewhere, or at the same address. The prover does not distinguish these cases after the branches join.
 use Rattle.std.proofs.Common.{ap, ◌∙◌}
 use Rattle.std.specs.FinMap as map
-use Rattle.vm_devices.proofs.Tables.{inserted_map, id_is_known, next_start_is_new, starts_kept, starts_moved}
+use Rattle.vm_devices.proofs.Tables.{inserted_map, id_is_known, starts_kept, starts_moved}
 use Rattle.vm_devices.proofs.device_manager.device_table.DeviceTable.replace.Goals.{then-before-start+in_ok-insert, else-before-start}
 use Rattle.vm_devices.proofs.device_manager.device_table.DeviceTable.replace.Goals as goal
-
-pub insert-requires : goal.insert-requires
-insert-requires c =
-    let only = rw (← c.self.view_is, ← c.start-start.ensures.value) at c.requires.only in
-    let known = rw (← c.self.view_is) at c.requires.known in
-    next_start_is_new c.self.invariant c.args.slot.id c.start-start.result c.args.before known c.if-before-start.true only
 
 pub set-requires : goal.set-requires
 set-requires c =

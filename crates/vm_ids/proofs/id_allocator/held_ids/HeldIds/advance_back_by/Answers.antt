@@ -1,7 +1,7 @@
 -- A turn passes the last freed run, or a row of held ids above it. The prover does not distinguish whether a freed run is left.
 use Rattle.std.proofs.Common.{◌<◌, ◌+◌, ◌-◌, arith, IfSome}
 use Rattle.std.proofs.lemmas.List.FromFn.{length-range_with_len}
-use Rattle.vm_chunks.specs.declared.id_set.Run.{Run}
+use Rattle.vm_list.specs.declared.id_set.Run.{Run}
 use Rattle.vm_ids.proofs.Ids.HeldIds.{passes_run_back, last_run_fits, filled_before, last_not_freed, visits_row_back, down_to_held_start, takes_row}
 use Rattle.vm_ids.proofs.id_allocator.held_ids.HeldIds.advance_back_by.Goals as goal
 use Rattle.vm_ids.proofs.id_allocator.held_ids.HeldIds.advance_back_by.Goals.{in_default-via-in-Some+else-self-from, in_default-via-in_default}
@@ -16,7 +16,7 @@ pub loop-rest-smaller-then-self-from : goal.loop-rest-smaller-then-self-from
 loop-rest-smaller-then-self-from c =
     let h = c.loop-rest.invariant in
     let filled = rw c.in-Some.is at h.below in
-    let steps = c.next_back-self-inside.ensures.steps in
+    let steps = c.last_run-self-inside.ensures in
     let p = passes_run_back _ _ c.in-Some.run' _ _ _ _ _ (omega (arith, c.if-self-from.true, c.from.ensures)) filled steps (rw c.in-Some.is at h.valid) in
     omega (arith, p.2, c.into-self-inside.ensures, c.if-self.true)
 
@@ -24,7 +24,7 @@ pub loop-rest-preserved-then-self-from : goal.loop-rest-preserved-then-self-from
 loop-rest-preserved-then-self-from c =
     let h = c.loop-rest.invariant in
     let filled = rw c.in-Some.is at h.below in
-    let steps = c.next_back-self-inside.ensures.steps in
+    let steps = c.last_run-self-inside.ensures in
     let p = passes_run_back _ _ c.in-Some.run' _ _ _ _ _ (omega (arith, c.if-self-from.true, c.from.ensures)) filled steps (rw c.in-Some.is at h.valid) in
     record {
       valid = rw c.into-self-inside.ensures p.0;

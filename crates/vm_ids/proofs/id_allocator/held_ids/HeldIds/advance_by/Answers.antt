@@ -1,7 +1,7 @@
 -- A turn passes the next freed run, or a row of held ids below it. The prover does not distinguish whether a freed run is left.
 use Rattle.std.proofs.Common.{◌<◌, arith, IfSome}
 use Rattle.std.proofs.lemmas.List.FromFn.{length-range_with_len}
-use Rattle.vm_chunks.specs.declared.id_set.Run.{Run}
+use Rattle.vm_list.specs.declared.id_set.Run.{Run}
 use Rattle.vm_ids.proofs.Ids.HeldIds.{passes_run, run_fits, filled_after, next_not_freed, visits_row, up_to_held_end, drops_row}
 use Rattle.vm_ids.proofs.id_allocator.held_ids.HeldIds.advance_by.Goals as goal
 use Rattle.vm_ids.proofs.id_allocator.held_ids.HeldIds.advance_by.Goals.{in_default-via-in-Some+else-from-self, in_default-via-in_default}
@@ -16,7 +16,7 @@ pub loop-rest-preserved-then-from-self : goal.loop-rest-preserved-then-from-self
 loop-rest-preserved-then-from-self c =
     let h = c.loop-rest.invariant in
     let filled = rw c.in-Some.is at h.above in
-    let steps = c.next-self-inside.ensures.steps in
+    let steps = c.next_run-self-inside.ensures in
     let p = passes_run _ _ c.in-Some.run' _ _ _ _ _ (omega (arith, c.if-from-self.true, c.from.ensures)) filled steps (rw c.in-Some.is at h.valid) in
     record {
       valid = rw c.from-in-Some.ensures p.0;

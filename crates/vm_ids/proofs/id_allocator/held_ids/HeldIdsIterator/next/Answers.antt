@@ -1,6 +1,6 @@
 -- The next id is held if no freed run starts there. The prover does not distinguish whether a freed run is left.
 use Rattle.std.proofs.Common.{◌+◌, ◌≤◌, length, sym, ap, ◌∙◌, arith, IfSome}
-use Rattle.vm_chunks.specs.declared.id_set.Run.{Run}
+use Rattle.vm_list.specs.declared.id_set.Run.{Run}
 use Rattle.vm_ids.proofs.Ids.HeldIds.{passes_run, run_fits, filled_after, next_not_freed, visits_row}
 use Rattle.vm_ids.proofs.id_allocator.held_ids.HeldIdsIterator.next.Goals as goal
 use Rattle.vm_ids.proofs.id_allocator.held_ids.HeldIdsIterator.next.Goals.{in_default-via-in-Some+else-from-self, in_default-via-in_default}
@@ -15,7 +15,7 @@ pub loop-self-preserved : goal.loop-self-preserved
 loop-self-preserved c =
     let h = c.loop-self.invariant in
     let filled = rw c.in-Some.is at h.above in
-    let steps = c.next-self-inside.ensures.steps in
+    let steps = c.next_run-self-inside.ensures in
     let p = passes_run _ _ c.in-Some.run' _ _ _ _ _ (omega (arith, c.if-from-self.true, c.from.ensures)) filled steps (rw c.in-Some.is at h.valid) in
     record {
       valid = rw c.from-in-Some.ensures p.0;

@@ -6,7 +6,7 @@ use Rattle.vm_range_map.proofs.range_map.iter.ValuedRangesDoubleEndedIterator.ne
 
 pub returns-clause-steps : goal.returns-clause-steps
 returns-clause-steps c =
-    sym c.self.view_is ∙ pair_back _ _ _ _ c.in_ok-range.range c.in-Some.entry c.self.invariant c.in_ok-range.ensures.steps c.in-Some.ensures.steps
+    sym c.self.view_is ∙ pair_back _ _ _ _ c.in_ok-range.range c.in-Some.entry.now c.self.invariant c.in_ok-range.ensures.steps c.in-Some.ensures.steps
 
 pub returns-clause-goes : goal.returns-clause-goes
 returns-clause-goes c =

@@ -1,4 +1,0 @@
-pub mod Entries
-pub mod Chunks
-pub mod EntryLaws
-pub mod Runs

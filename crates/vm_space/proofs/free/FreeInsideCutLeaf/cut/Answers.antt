@@ -1,0 +1,29 @@
+use Rattle.std.proofs.Common.{refl, arith}
+use Rattle.vm_space.proofs.Frees.{frees_in}
+use Rattle.vm_space.proofs.free.FreeInsideCutLeaf.cut.Goals as goal
+
+pub returns-then-left-lt-MIN_BLOCKS-clause-small : goal.returns-then-left-lt-MIN_BLOCKS-clause-small
+returns-then-left-lt-MIN_BLOCKS-clause-small c = λ _. (
+  (
+    _,
+    (
+      refl,
+      frees_in c.args.leaf.now c.join.new.self c.in-Some.i c.in-Some.ensures.0 c.join.ensures.freed c.args.self.now.key c.in-Some.ensures.1
+          c.in_default-edge_of.ensures c.len-len.result c.len-left.result c.len-len.ensures.value c.len-left.ensures.value c.len-left.ensures.leaf.some,
+    ),
+  ),
+  tt,
+)
+
+pub returns-clause-changed : goal.returns-clause-changed
+returns-clause-changed c = λ _. (
+  (
+    _,
+    (
+      refl,
+      frees_in c.args.leaf.now c.join.new.self c.in-Some.i c.in-Some.ensures.0 c.join.ensures.freed c.args.self.now.key c.in-Some.ensures.1
+          c.in_default-edge_of.ensures c.len-len.result c.len-left.result c.len-len.ensures.value c.len-left.ensures.value c.len-left.ensures.leaf.some,
+    ),
+  ),
+  λ h. omega arith,
+)

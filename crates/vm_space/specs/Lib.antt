@@ -1,0 +1,17 @@
+pub mod Leaves
+pub mod Allocation
+pub mod Placing
+pub mod Exact
+pub mod Shape
+pub mod Spaces
+pub mod Fibonacci
+pub mod Trees
+pub mod Spares
+pub mod Building
+pub mod Lookups
+pub mod Walks
+pub mod Edges
+pub mod Frees
+pub mod NodeCounts
+pub mod Fitting
+pub mod Closest
