@@ -4,7 +4,7 @@ use Rattle.vm_ranges.specs.Range.{Range, IsRange}
 use Rattle.vm_ranges.specs.declared.error.Error.{Error}
 use Rattle.vm_ranges.specs.declared.error.Error.TheVariants.{OutOfMemory}
 use Rattle.vm_leaf.specs.declared.block.Block.{Block}
-use Rattle.vm_tree.specs.Shape.{Shape, blocks}
+use Rattle.vm_space.specs.Shape.{Shape, blocks}
 use Rattle.vm_ranges.specs.Address.{AddressState}
 use Rattle.vm_leaf.specs.TreeHeights.{TOO_MANY_BLOCKS}
 use Rattle.vm_leaf.specs.SpaceBlocks.{blocks_state, IsTiling}

@@ -6,6 +6,7 @@ use Rattle.vm_ranges.specs.Range.{Range, MAX, IsIn, address_count}
 use Rattle.vm_ranges.specs.Request.{Request, request_for}
 use Rattle.vm_ranges.specs.Address.{AddressState, IsAddressState, IsClear, SplitsGap, holding, releasing}
 use Rattle.vm_ranges.specs.Answer.{SPLIT_LIMIT_MIN_HELD, Allocates}
+use Rattle.vm_space.specs.Spares.{HasSpare}
 use Rattle.vm_addresses.specs.declared.address_allocator.moving.BegunMove.{BegunMove}
 use Rattle.vm_ranges.specs.declared.error.Error.{Error}
 use Rattle.vm_ranges.specs.declared.error.Error.TheVariants.{ResourceNotAvailable}
@@ -43,7 +44,7 @@ pub record IsBegun (old : AddressState) (r : Range) (begun : BegunMove) (mid : A
   pub held : Contains old.held r
   pub some : begun.range.start ≤ begun.range.end
   pub beside : begun.is_allocated ≡ true → (mid ≡ holding begun.range old) × ((x : ℕ) → IsIn begun.range x → IsClear old x)
-  pub inside : begun.is_allocated ≡ false → (mid ≡ old) × CanReplace old r begun.range (begun.range ≢ r → begun.spare ≢ None)
+  pub inside : begun.is_allocated ≡ false → (mid ≡ old) × CanReplace old r begun.range (begun.range ≢ r → HasSpare (length old.held) begun.spare)
 
 -- The result of `begin_move`: the range of a move that will succeed, or the error of the move.
 abbrev pub BeginsMove : AddressState → Range → Request → Result BegunMove Error → AddressState → Type 0

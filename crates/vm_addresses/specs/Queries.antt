@@ -5,7 +5,7 @@ use Rattle.vm_ranges.specs.Range.{Range, IsIn, IsInNone, address_count}
 use Rattle.vm_ranges.specs.Address.{AddressState}
 use Rattle.vm_ranges.specs.Windows.{common}
 use Rattle.vm_leaf.specs.declared.block.Block.{Block}
-use Rattle.vm_tree.specs.Walks.{meets}
+use Rattle.vm_space.specs.Walks.{meets}
 use Rattle.vm_leaf.specs.SpaceBlocks.{blocks_of, held_of}
 use Rattle.vm_ranges.specs.declared.state.NodeState.{NodeState}
 use Rattle.vm_ranges.specs.declared.state.NodeState.TheVariants.{Free, Allocated}

@@ -4,7 +4,7 @@ use Rattle.vm_ranges.specs.Range.{Range, address_count}
 use Rattle.vm_ranges.specs.Request.{Request, request_for}
 use Rattle.vm_ranges.specs.Address.{AddressState, IsAddressState}
 use Rattle.vm_ranges.specs.Answer.{Allocates}
-use Rattle.vm_tree.specs.Shape.{Shape}
+use Rattle.vm_space.specs.Shape.{Shape}
 use Rattle.vm_addresses.specs.Allocator.{state_of}
 use Rattle.vm_ranges.specs.declared.error.Error.{Error}
 use Rattle.vm_ranges.specs.declared.error.Error.TheVariants.{OutOfMemory}

@@ -21,16 +21,16 @@ ghost use Rattle.vm_ranges.specs.Answer.{Allocates, FillsGap, Frees, IsChosen, M
 ghost use Rattle.vm_addresses.specs.Allocator.{IsSpaceTree, MakesTree, state_of, made_state};
 ghost use Rattle.vm_addresses.specs.Held.{MakesSpace};
 ghost use Rattle.vm_ranges.specs.Cloning.{Clones};
-ghost use Rattle.vm_tree.specs.Shape.{blocks, height_of};
-ghost use Rattle.vm_tree.specs.Walks.{meeting_blocks};
+ghost use Rattle.vm_space.specs.Shape.{blocks, height_of};
+ghost use Rattle.vm_space.specs.Walks.{meeting_blocks};
 ghost use Rattle.vm_addresses.specs.Counts.GapSearch.{SearchesGaps};
-ghost use Rattle.vm_addresses.specs.Counts.Steps.{EntersToAllocate, IsAllocationCount};
+ghost use Rattle.vm_addresses.specs.Counts.Steps.{IsAllocationCount};
 ghost use Rattle.vm_addresses.specs.Tree.BalancedTree.{IsBalancedTreeOf};
 
 use std::alloc::Global;
 use std::marker::Model;
 use vm_ranges::{AllocPolicy, Constraint, Error, RangeInclusive, Result};
-use vm_tree::{Tree, Walk};
+use vm_space::{Space, Walk};
 
 mod allocation;
 pub(crate) mod blocks;
@@ -58,7 +58,7 @@ pub use list_conflicts::ListConflict;
 pub struct AddressAllocator {
     /// The blocks of the space. A block is a range of addresses that is allocated as a whole, or free as a
     /// whole. Two neighbours are never both free.
-    pub(crate) tree: Tree,
+    pub(crate) tree: Space,
     /// The addresses of all blocks.
     pub(crate) space: RangeInclusive,
     /// The number of allocated ranges.
@@ -70,8 +70,8 @@ pub struct AddressAllocator {
 }
 
 impl Model for AddressAllocator {
-    ghost use Rattle.vm_tree.specs.Shape.{Shape};
-    ghost use Rattle.vm_tree.specs.ShapeCode.{shape_code};
+    ghost use Rattle.vm_space.specs.Shape.{Shape};
+    ghost use Rattle.vm_space.specs.Shape.{shape_code};
 
     ghost Value = { Shape };
 
@@ -117,7 +117,7 @@ impl AddressAllocator {
         ensures state { IfOk result (λ allocator. IsAddressState (state_of allocator)) }
     {
         Ok(AddressAllocator {
-            tree: Tree::new(alloc, space)?,
+            tree: Space::new(alloc, space)?,
             space,
             held_count: 0,
             gap_count: 1,
@@ -289,7 +289,6 @@ impl AddressAllocator {
         // A request that fills its gap needs no memory, so it succeeds.
         ensures filling { (start : ℕ) → FillsGap (state_of self.old) (request_for size alignment policy) start
             → IsOk result.0 }
-        ensures count { EntersToAllocate self.old (request_for size alignment policy) result.1 }
         ensures steps { IsAllocationCount (height_of self.old) (state_of self.old)
             (request_for size alignment policy) result.0 result.1 }
         ensures search { SearchesGaps (height_of self.old) (state_of self.old)
@@ -335,6 +334,8 @@ impl AddressAllocator {
         ensures value { result ≡ height_of self.now }
         ensures tree { IsBalancedTreeOf (state_of self.now) self.now }
     {
+        // Proof: the tree is valid.
+        self.tree.facts();
         self.tree.height()
     }
 

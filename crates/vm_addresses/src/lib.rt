@@ -21,7 +21,7 @@
 //!   the same state.
 //! - In `vm_laws`, for every list of calls: held ranges are valid and disjoint, and the state decides the
 //!   results, unless memory runs out.
-//! - The number of nodes that an allocation and a successful free enter (`EntersToAllocate`,
+//! - The number of nodes that an allocation and a successful free enter (`IsAllocationCount`,
 //!   `IsFreeCount`).
 //! - A saved tree is read if and only if it is valid, with and without repairs.
 //!

@@ -23,8 +23,8 @@ pub struct IntervalTree {
 }
 
 impl Model for IntervalTree {
-    ghost use Rattle.vm_tree.specs.Shape.{Shape};
-    ghost use Rattle.vm_tree.specs.ShapeCode.{shape_code};
+    ghost use Rattle.vm_space.specs.Shape.{Shape};
+    ghost use Rattle.vm_space.specs.Shape.{shape_code};
 
     ghost Value = { Shape };
 

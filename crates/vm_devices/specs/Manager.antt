@@ -5,8 +5,8 @@ use Rattle.std.specs.Coded.{Coded, code_by, coded×, coded_ℕ}
 use Rattle.std.specs.FinMap as map
 use Rattle.vm_ranges.specs.Range.{Range, range_code}
 use Rattle.vm_ids.specs.Ids.{IdState, id_state_code}
-use Rattle.vm_tree.specs.Shape.{Shape}
-use Rattle.vm_tree.specs.ShapeCode.{shape_code}
+use Rattle.vm_space.specs.Shape.{Shape}
+use Rattle.vm_space.specs.Shape.{shape_code}
 use Rattle.vm_addresses.specs.Allocator.{state_of}
 use Rattle.vm_devices.specs.Devices.{DeviceState, devices_of}
 

@@ -1,4 +1,3 @@
-pub mod MadeOrNot
 pub mod MisalignedGaps
 pub mod SimpleBounds
 pub mod AddressEnds

@@ -6,7 +6,7 @@ use Rattle.vm_ranges.specs.Address.{AddressState, IsAddressState}
 use Rattle.vm_leaf.specs.declared.block.Block.{Block}
 use Rattle.vm_leaf.specs.Block.{free_length}
 use Rattle.vm_leaf.specs.Fit.{HasNoFit}
-use Rattle.vm_tree.specs.GapSearch.{is_misaligned}
+use Rattle.vm_space.specs.NodeCounts.{is_misaligned}
 use Rattle.vm_addresses.specs.Counts.GapSearch.{misaligned_gaps}
 use Rattle.vm_ranges.specs.Request.{Request}
 use Rattle.vm_ranges.specs.Answer.{Allocates, Frees}

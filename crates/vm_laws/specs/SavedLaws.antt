@@ -4,7 +4,7 @@ use Rattle.serde_json.specs.Data.{Data}
 use Rattle.vm_ranges.specs.Range.{Range}
 use Rattle.vm_ranges.specs.Address.{AddressState}
 use Rattle.vm_leaf.specs.declared.block.Block.{Block}
-use Rattle.vm_tree.specs.Shape.{Shape, blocks}
+use Rattle.vm_space.specs.Shape.{Shape, blocks}
 use Rattle.vm_addresses.specs.Allocator.{space_of, state_of, IsSpaceTree}
 use Rattle.vm_saved_trees.specs.SavedTrees.{Saved, Node, HasRanges, IsReadable, HasHeldKeys, HasTreeOf}
 use Rattle.vm_saved_trees.specs.TreeValues.{EncodesSpaceTree}

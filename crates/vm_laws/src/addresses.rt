@@ -3,7 +3,7 @@
 //! `states_are_preserved` and `one_range_changes` are steps. The other laws are promises.
 ghost use Rattle.vm_laws.specs.AddressLaws.{AllocatesOnce, FreesOnce, HeldAreDisjoint, AllocatingAddsRange, FreeingRemovesRange, FreeingUndoes, MisalignedIsExact, NoneIsMisalignedAtOne, CountFindsAll};
 ghost use Rattle.vm_addresses.specs.Facts.{StateIsPreserved};
-ghost use Rattle.vm_laws.specs.CountLaws.{EntersFew, CountsAreDecided, FreeEntersPath};
+ghost use Rattle.vm_laws.specs.CountLaws.{EntersFew};
 
 /// States that an allocation has one result and one next state, unless memory runs out.
 #[tactic(auto, using(vm_addresses::proofs::Results::Once::allocates_once))]
@@ -55,17 +55,4 @@ fn counts_find_all()
 #[tactic(auto, using(crate::proofs::AddressProofs::SimpleBounds::simple_bounds))]
 fn calls_enter_few()
     ensures { EntersFew }
-{}
-
-/// States that the tree and a request decide the number of nodes that an allocation enters.
-#[tactic(auto, using(crate::proofs::AddressProofs::SimpleBounds::decided))]
-fn counts_are_decided()
-    ensures { CountsAreDecided }
-{}
-
-/// States that a successful call of `free` enters at least the nodes on the path to the leaf of its
-/// range.
-#[tactic(auto, using(crate::proofs::AddressProofs::SimpleBounds::path))]
-fn free_enters_path()
-    ensures { FreeEntersPath }
 {}

@@ -3,8 +3,8 @@ use Rattle.std.specs.Prelude.{ℕ, Result, Ok, Err, refl}
 use Rattle.std.specs.Ordering.{nat_cmp}
 use Rattle.std.specs.Coded.{Coded, code_by, coded×, coded_ℕ}
 use Rattle.std.specs.FinMap as map
-use Rattle.vm_tree.specs.Shape.{Shape}
-use Rattle.vm_tree.specs.ShapeCode.{shape_code}
+use Rattle.vm_space.specs.Shape.{Shape}
+use Rattle.vm_space.specs.Shape.{shape_code}
 use Rattle.vm_addresses.specs.Allocator.{state_of}
 use Rattle.vm_range_map.specs.RangeMaps.{MapState, map_of}
 

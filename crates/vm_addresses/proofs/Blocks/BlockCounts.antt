@@ -12,7 +12,7 @@ use Rattle.vm_addresses.proofs.Blocks.HeldChanges.{Misses, beside, misses_later,
 use Rattle.vm_addresses.proofs.Blocks.HeldSets.{one_start, later_above, held_lies}
 use Rattle.vm_leaf.proofs.Spaces.OneList.{few_blocks}
 use Rattle.vm_leaf.proofs.Spaces.Tilings.{held_of-blocks_of}
-use Rattle.vm_tree.proofs.BlockCursors.{between_tiles}
+use Rattle.vm_space.proofs.BlockCursors.{between_tiles}
 use Rattle.vm_ranges.specs.Request.{Request}
 use Rattle.vm_ranges.specs.Answer.{Allocates, Frees}
 

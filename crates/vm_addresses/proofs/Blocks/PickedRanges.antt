@@ -4,9 +4,9 @@ use Rattle.vm_ranges.specs.Range.{Range, IsIn, at_address}
 use Rattle.vm_ranges.specs.RangeOrder.{covers}
 use Rattle.vm_leaf.specs.declared.block.Block.{Block}
 use Rattle.vm_leaf.specs.SpaceBlocks.{held_of}
-use Rattle.vm_tree.specs.Lookups.{find_superset}
+use Rattle.vm_space.specs.Lookups.{find_superset}
 use Rattle.vm_addresses.specs.Queries.{free_of, IsRangeAt, meeting}
-use Rattle.vm_tree.specs.Walks.{meets, meeting_blocks}
+use Rattle.vm_space.specs.Walks.{meets, meeting_blocks}
 use Rattle.vm_ranges.specs.declared.state.NodeState.{NodeState}
 use Rattle.vm_ranges.specs.declared.state.NodeState.TheVariants.{Free, Allocated}
 use Rattle.vm_leaf.proofs.Spaces.Gaps.{state_cases}

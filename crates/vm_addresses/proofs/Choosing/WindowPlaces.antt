@@ -10,7 +10,7 @@ use Rattle.vm_ranges.specs.Address.{AddressState, IsPlace, IsLowestPlace, IsHigh
 use Rattle.vm_leaf.specs.Blocks.{Tiles}
 use Rattle.vm_leaf.specs.SpaceBlocks.{IsBlocksOf}
 use Rattle.vm_leaf.specs.Fit.{IsFit, HasNoFit, IsLowestFit, IsHighestFit}
-use Rattle.vm_tree.specs.Allocation.{HasNoFitIn}
+use Rattle.vm_space.specs.Allocation.{HasNoFitIn}
 use Rattle.vm_ranges.specs.declared.state.NodeState.{NodeState}
 use Rattle.vm_ranges.specs.declared.state.NodeState.TheVariants.{Free, Allocated}
 use Rattle.vm_leaf.proofs.Spaces.Gaps.{InFreeBlock}

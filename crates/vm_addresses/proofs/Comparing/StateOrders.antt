@@ -6,7 +6,7 @@ use Rattle.vm_ranges.specs.RangeOrder.{range_cmp}
 use Rattle.vm_leaf.specs.declared.block.Block.{Block}
 use Rattle.vm_leaf.specs.SpaceBlocks.{held_of, blocks_state, blocks_of}
 use Rattle.vm_ranges.specs.Address.{AddressState}
-use Rattle.vm_tree.specs.Shape.{Shape, blocks}
+use Rattle.vm_space.specs.Shape.{Shape, blocks}
 use Rattle.vm_addresses.specs.Allocator.{space_of, state_of, IsSpaceTree}
 use Rattle.vm_addresses.specs.Comparison.{blocks_cmp, layout_cmp, layout_cmp-total, state_cmp, state_cmp-total, AreEqual, IsOrder}
 use Rattle.vm_addresses.proofs.Comparing.Orders.{order_of_total, blocks_cmp-exact}

@@ -1,7 +1,7 @@
 -- The balanced tree of a state's blocks.
 use Rattle.std.proofs.Common.{arith}
-use Rattle.vm_tree.specs.Roots.{IsBlockTree}
-use Rattle.vm_tree.specs.Shape.{Shape, blocks}
+use Rattle.vm_space.specs.Trees.{IsBlockTree}
+use Rattle.vm_space.specs.Shape.{Shape, blocks}
 use Rattle.vm_addresses.specs.Tree.BalancedTree.{IsBalancedTreeOf}
 use Rattle.vm_addresses.specs.Allocator.{space_of, state_of, IsSpaceTree}
 use Rattle.vm_addresses.proofs.Placing.Requests.{held_blocks_are}
@@ -16,6 +16,7 @@ balanced_tree s h t = record {
   few = omega (arith, t.low.few, held_blocks_are (blocks s));
   low = omega (arith, t.low.low, held_blocks_are (blocks s));
   full = λ k. omega (arith, t.low.full k, held_blocks_are (blocks s));
+  power = λ k. omega (arith, t.low.power k, held_blocks_are (blocks s));
   height = t.height;
 }
 

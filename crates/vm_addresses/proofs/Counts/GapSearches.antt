@@ -1,5 +1,5 @@
 -- From the bounds on the nodes of a search to those by the gaps of the state without a place.
-use Rattle.std.proofs.Common.{◌≡◌, ℕ, ◌+◌, ◌≤◌, Bool, true, false, cond, leb, List, [], ◌∷◌, length, refl, sym, ap, ◌∙◌, subst, arith, Option, Some, None, Result, Err}
+use Rattle.std.proofs.Common.{◌≡◌, ℕ, ◌+◌, ◌*◌, ◌≤◌, Bool, true, false, cond, leb, List, [], ◌∷◌, length, refl, sym, ap, ◌∙◌, subst, arith, Option, Some, None, Result, Err}
 use Rattle.std.specs.Prelude.{◌&&◌}
 use Rattle.std.specs.List.{list_any, filter}
 use Rattle.std.proofs.lemmas.Bool.{le-leb}
@@ -16,14 +16,14 @@ use Rattle.vm_leaf.specs.declared.block.Block.{Block}
 use Rattle.vm_leaf.specs.Blocks.{Tiles}
 use Rattle.vm_leaf.specs.Windows.{cut_to}
 use Rattle.vm_ranges.specs.Windows.{common, window_in}
-use Rattle.vm_tree.specs.GapSearch.{is_misaligned, on_part, parts_passing, gaps_without_place, IsSearchCount}
-use Rattle.vm_tree.specs.NodeCounts.{has_fit_in}
-use Rattle.vm_tree.specs.Shape.{Shape, blocks, height_of}
+use Rattle.vm_space.specs.NodeCounts.{has_fit_in, is_misaligned, on_part, parts_passing, gaps_without_place, IsWholeWindow, IsSearchCount}
+use Rattle.vm_space.specs.Shape.{Shape, blocks, height_of, node_count}
+use Rattle.std.proofs.Math.Nat.{mul-le-mul}
 use Rattle.vm_ranges.specs.Address.{AddressState}
 use Rattle.vm_addresses.specs.Counts.GapSearch.{misaligned_gaps, passing, SearchesAmongGaps, SearchesGaps}
 use Rattle.vm_leaf.specs.SpaceBlocks.{blocks_state, TilesSpace}
 use Rattle.vm_leaf.proofs.Spaces.Tilings.{tiling_blocks}
-use Rattle.vm_addresses.proofs.Counts.Allocating.{invalid_count, invalid_entered}
+use Rattle.vm_addresses.proofs.Counts.Allocating.{invalid_count}
 use Rattle.vm_addresses.proofs.Results.Requests.{request_in, allocates_refused}
 use Rattle.vm_addresses.proofs.Trees.Ends.{whole_window}
 
@@ -68,9 +68,28 @@ module _ (sp : Range) (bs : List Block) (tiles : TilesSpace sp bs) (request : Re
       ∙ ap (passing request.window (is_misaligned request.size request.align)) (sym (tiling_blocks sp bs tiles))
 
 -- ---- The bounds
+-- The bounds on a search, for v gaps without a place.
+record IsGapCount (w : Range) (n a v : ℕ) (s : Shape) (count : ℕ) : Type 0 where
+  none : IsWholeWindow w (blocks s) → list_any (has_fit_in w n a) (blocks s) ≡ false → count ≤ height_of s * v
+  whole : IsWholeWindow w (blocks s) → count ≤ height_of s * (v + 1)
+  most : count ≤ height_of s * (v + 2)
+
+by_misaligned : (w : Range) (n a : ℕ) (s : Shape) (count : ℕ) → IsSearchCount w n a (height_of s) (node_count s) (blocks s) count
+    → IsGapCount w n a (parts_passing w (is_misaligned n a) (blocks s)) s count
+by_misaligned w n a s count b =
+    let h = height_of s in
+    let v = parts_passing w (is_misaligned n a) (blocks s) in
+    let g = gaps_without_place w n a (blocks s) in
+    let l : g ≤ v = omega arith in
+    record {
+      none = λ x y. let k : h * g ≤ h * v = mul-le-mul (omega arith) l in omega (arith, b.none x y, k);
+      whole = λ x. let k : h * (g + 1) ≤ h * (v + 1) = mul-le-mul (omega arith) (omega (arith, l)) in omega (arith, b.whole x, k);
+      most = let k : h * (g + 2) ≤ h * (v + 2) = mul-le-mul (omega arith) (omega (arith, l)) in omega (arith, b.most, k);
+    }
+
 among : (policy : AllocPolicy) (w : Option Range) (sp : Range) (n a v : ℕ) (s : Shape) (answer : Result Range Error) (count : ℕ) →
     TilesSpace sp (blocks s) → sp.start ≤ sp.end
-    → IsSearchCount (window_in w sp) n a v s count →
+    → IsGapCount (window_in w sp) n a v s count →
     (answer ≡ Err ResourceNotAvailable → list_any (has_fit_in (window_in w sp) n a) (blocks s) ≡ false) →
     SearchesAmongGaps (height_of s) v (request_in w n a policy) answer count
 among FirstMatch None sp n a v s answer count t l b none = let whole = whole_window sp (blocks s) t l in record
@@ -84,15 +103,14 @@ among (ExactMatch x) (Some w) sp n a v s answer count t l b none = tt
 
 pub searches : (request : Request) (sp : Range) (s : Shape) (answer : Result Range Error) (count : ℕ) → TilesSpace sp (blocks s) →
     sp.start ≤ sp.end
-    → IsSearchCount (window_in request.window sp) request.size request.align
-    (gaps_without_place (window_in request.window sp) request.size request.align (blocks s)) s count
+    → IsSearchCount (window_in request.window sp) request.size request.align (height_of s) (node_count s) (blocks s) count
     → (answer ≡ Err ResourceNotAvailable →
     list_any (has_fit_in (window_in request.window sp) request.size request.align) (blocks s) ≡ false) →
     SearchesGaps (height_of s) (blocks_state sp (blocks s)) request answer count
 unfolding SearchesGaps
 searches request sp s answer count t l b none =
     subst (λ (v : ℕ). SearchesAmongGaps (height_of s) v request answer count) (misaligned_are sp (blocks s) t request)
-    (among request.policy request.window sp request.size request.align _ s answer count t l b none)
+    (among request.policy request.window sp request.size request.align _ s answer count t l (by_misaligned _ _ _ s count b) none)
 
 -- An ExactMatch request searches no gap.
 pub exact_searches : (request : Request) (t h : ℕ) (old : AddressState) (answer : Result Range Error) (count : ℕ) →
@@ -117,4 +135,4 @@ pub invalid_search : (h : ℕ) (old : AddressState) (request : Request) (e : Err
 unfolding SearchesGaps
 invalid_search h old request e = none_searched h (misaligned_gaps old request) request.policy request.window request.size request.align e
 
-pub ruleset refused = (allocates_refused, invalid_count, invalid_entered, invalid_search)
+pub ruleset refused = (allocates_refused, invalid_count, invalid_search)

@@ -14,6 +14,7 @@ use Rattle.vm_leaf.specs.Fit.{HasNoFit, IsFit, IsLowestFit, IsHighestFit}
 use Rattle.vm_ranges.specs.Address.{AddressState, IsAddressState, IsClear, AreClear, IsPlace, IsLowestPlace, IsHighestPlace, SplitsGap, holding, releasing}
 use Rattle.vm_ranges.specs.Answer.{IsChosen, ByStart, ByExactPolicy, ByPlace, AllocatesAt, Grants, Allocates}
 use Rattle.vm_ranges.specs.Windows.{part_in, within, window_in}
+use Rattle.vm_space.specs.Spares.{HasSpare}
 use Rattle.vm_addresses.specs.Moves.{replacing, MovesRange, CanReplace, IsBegun, BeginsMove}
 use Rattle.vm_addresses.specs.Checks.Moving.{BeginsInside, FindsStart, FindsPlaceIn, IsForCloser, IsLeftGap, part_for}
 use Rattle.vm_addresses.specs.declared.address_allocator.moving.BegunMove.{BegunMove}
@@ -480,7 +481,7 @@ module _ (old : AddressState) (r gap : Range) (request : Request) (state : IsAdd
         grants_at counted request.policy request.window request.size request.align q.start (releasing r old) (released_then old r answer) answer
         valid.some (omega (arith, end, top, state.space)) chosen there
 
-    can_replace : (begun : BegunMove) → BeginsInside old r gap q (Ok begun) → CanReplace old r q (q ≢ r → begun.spare ≢ None)
+    can_replace : (begun : BegunMove) → BeginsInside old r gap q (Ok begun) → CanReplace old r q (q ≢ r → HasSpare (length old.held) begun.spare)
     can_replace begun h = record {
       some = in_gap.1;
       below = h.0;
@@ -503,7 +504,7 @@ module _ (old : AddressState) (r gap : Range) (request : Request) (state : IsAdd
             held = held;
             some = subst (λ (v : Range). v.start ≤ v.end) (sym same) in_gap.1;
             beside = λ k. absurd (cc (h.2, k));
-            inside = λ _. (refl, subst (λ (v : Range). CanReplace old r v (v ≢ r → begun.spare ≢ None)) (sym same) (can_replace begun h));
+            inside = λ _. (refl, subst (λ (v : Range). CanReplace old r v (v ≢ r → HasSpare (length old.held) begun.spare)) (sym same) (can_replace begun h));
           },
         )
 

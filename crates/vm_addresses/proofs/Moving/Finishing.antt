@@ -1,5 +1,5 @@
 -- A move that was begun is finished or cancelled.
-use Rattle.std.proofs.Common.{◌≡◌, ◌≢◌, ◌%◌, ◌<◌, List, length, true, false, None, arith, refl, sym, ap, ◌∙◌, ⊎_elim, subst, Result, Err}
+use Rattle.std.proofs.Common.{◌≡◌, ◌≢◌, ℕ, ◌%◌, ◌<◌, ◌≤◌, List, length, true, false, Option, Some, None, arith, refl, sym, ap, ◌∙◌, ⊎_elim, subst, Result, Err}
 use Rattle.std.specs.List.{Contains}
 use Rattle.vm_ranges.specs.Range.{Range, address_count, span}
 use Rattle.vm_ranges.specs.declared.constraint.AllocPolicy.TheVariants.{ExactMatch}
@@ -7,6 +7,7 @@ use Rattle.vm_ranges.specs.declared.error.Error.{Error}
 use Rattle.vm_ranges.specs.declared.error.Error.TheVariants.{OutOfMemory}
 use Rattle.vm_ranges.specs.Address.{AddressState, AreClear, IsPlace, releasing}
 use Rattle.vm_ranges.specs.Answer.{IsChosen, AllocatesAt, Grants, Frees}
+use Rattle.vm_space.specs.Spares.{HasSpare}
 use Rattle.vm_addresses.specs.Moves.{request_to, replacing, CanReplace, IsBegun}
 use Rattle.vm_addresses.specs.declared.address_allocator.moving.BegunMove.{BegunMove}
 use Rattle.vm_ranges.proofs.RangeCalls.{same_range}
@@ -70,6 +71,11 @@ pub inside_finishes : (old mid new : AddressState) (r : Range) (begun : BegunMov
     new ≡ replacing r begun.range mid → new ≡ replacing r begun.range old
 inside_finishes old mid new r begun h is e = e ∙ ap (λ (v : AddressState). replacing r begun.range v) (h.inside is).0
 
+-- Memory for more held ranges is enough.
+pub fewer_spare : (j k : ℕ) (spare : Option ℕ) → j ≤ k → HasSpare k spare → HasSpare j spare
+fewer_spare j k None l h = h
+fewer_spare j k (Some n) l h = (h.0, omega (arith, l, h.1))
+
 -- The range is allocated with the memory that is there.
 pub enters_gap : (old new : AddressState) (r q : Range) (HasMemory : Type 0) (answer : Result Range Error) → Contains old.held r →
     CanReplace old r q HasMemory → (HasMemory → answer ≢ Err OutOfMemory) →
@@ -102,10 +108,10 @@ enters_gap old new r q HasMemory answer held can memory h =
 
 -- A range that replaces another one has the memory for it.
 pub replaces : (old mid : AddressState) (r : Range) (begun : BegunMove) → IsBegun old r begun mid → begun.is_allocated ≡ false →
-    begun.range ≢ r → CanReplace mid r begun.range (begun.spare ≢ None)
+    begun.range ≢ r → CanReplace mid r begun.range (HasSpare (length mid.held) begun.spare)
 replaces old mid r begun h is other =
     let can = (h.inside is).1 in
-    subst (λ (v : AddressState). CanReplace v r begun.range (begun.spare ≢ None)) (sym (h.inside is).0)
+    subst (λ (v : AddressState). CanReplace v r begun.range (HasSpare (length v.held) begun.spare)) (sym (h.inside is).0)
     (record { some = can.some; below = can.below; clear = can.clear; split = λ s. ((can.split s).0 other, (can.split s).1) })
 
 pub ruleset finishing = (beside_finishes, same_finishes, inside_finishes, replaces)

@@ -10,7 +10,7 @@ use Rattle.vm_ranges.specs.declared.error.Error.TheVariants.{ResourceNotAvailabl
 use Rattle.vm_ranges.specs.declared.constraint.AllocPolicy.TheVariants.{FirstMatch, LastMatch}
 use Rattle.vm_ranges.proofs.RangeCalls.{same_range}
 use Rattle.vm_leaf.specs.SpaceBlocks.{IsBlocksOf}
-use Rattle.vm_tree.specs.Shape.{Shape, blocks}
+use Rattle.vm_space.specs.Shape.{Shape, blocks}
 use Rattle.vm_addresses.specs.Allocator.{state_of, space_of, IsSpaceTree}
 use Rattle.vm_addresses.specs.Peeks.{Peeks, state_after}
 use Rattle.vm_addresses.specs.Checks.Peeking.{FindsFirst, FindsLast, FindsChosen, Settles}

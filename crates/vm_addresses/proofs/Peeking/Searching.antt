@@ -7,8 +7,8 @@ use Rattle.vm_ranges.specs.Range.{Range}
 use Rattle.vm_leaf.specs.declared.block.Block.{Block}
 use Rattle.vm_leaf.specs.Fit.{HasNoFit}
 use Rattle.vm_leaf.specs.Windows.{cut_to}
-use Rattle.vm_tree.specs.Walks.{meets, meeting_blocks}
-use Rattle.vm_tree.specs.Allocation.{HasNoFitIn}
+use Rattle.vm_space.specs.Walks.{meets, meeting_blocks}
+use Rattle.vm_space.specs.Allocation.{HasNoFitIn}
 use Rattle.vm_addresses.specs.Checks.Peeking.{IsLowestIn, IsHighestIn, FindsFirst, FindsLast}
 
 -- A block that does not meet the window has no fit in it.

@@ -7,9 +7,9 @@ use Rattle.vm_ranges.specs.Request.{Request, IsRequest}
 use Rattle.vm_ranges.specs.declared.error.Error.{Error}
 use Rattle.vm_leaf.specs.Block.{free_block}
 use Rattle.vm_leaf.specs.Blocks.{parts}
-use Rattle.vm_tree.specs.Allocation.{range_at}
-use Rattle.vm_tree.specs.Shape.{Shape, blocks, height_of}
-use Rattle.vm_tree.specs.declared.search.Taken.{Taken}
+use Rattle.vm_space.specs.Allocation.{range_at}
+use Rattle.vm_space.specs.Shape.{Shape, blocks, height_of}
+use Rattle.vm_space.specs.declared.search.Taken.{Taken}
 use Rattle.vm_ranges.specs.Address.{AddressState, IsAddressState, holding}
 use Rattle.vm_ranges.specs.Answer.{SPLIT_LIMIT_MIN_HELD, Grants}
 use Rattle.vm_addresses.specs.Tree.Allocation.{taken_range, Takes, IsAllocation}
@@ -22,9 +22,8 @@ use Rattle.vm_addresses.proofs.Placing.TakenRanges.{as_blocks, blocks_split}
 use Rattle.vm_addresses.proofs.Trees.CountedTrees.{TakesOne, length_with, taken_counted, taken_fits, gaps_left, gaps_fit}
 use Rattle.vm_addresses.proofs.Trees.Spaces.{state_of_tree}
 use Rattle.vm_addresses.specs.Counts.GapSearch.{SearchesGaps}
-use Rattle.vm_addresses.specs.Counts.NodeCounts.{nodes_of_request}
-use Rattle.vm_addresses.specs.Counts.Steps.{EntersToAllocate, IsAllocationCount, IsGrantCount}
-use Rattle.vm_addresses.proofs.Counts.Allocating.{entered_if_valid, valid_count}
+use Rattle.vm_addresses.specs.Counts.Steps.{IsAllocationCount, IsGrantCount}
+use Rattle.vm_addresses.proofs.Counts.Allocating.{valid_count}
 
 -- ---- The number of parts
 one_part : (k r : Range) → r.start ≤ k.start → k.end ≤ r.end → length (parts k r) ≡ 1
@@ -88,7 +87,6 @@ module _ (s m : Shape) (can_split : Bool) (n : ℕ) (taken : Taken) (h : IsSpace
 -- The clauses of the contract on a result.
 pub record IsAnswered (s m : Shape) (can_split : Bool) (request : Request) (answer : Result Range Error) (count : ℕ) : Type 0 where
   pub grants : (counted : ℕ) → IsTestOf can_split (counted < SPLIT_LIMIT_MIN_HELD) → Grants counted (state_of s) request answer (state_of m)
-  pub enters : EntersToAllocate s request count
   pub steps : IsAllocationCount (height_of s) (state_of s) request answer count
   pub search : SearchesGaps (height_of s) (state_of s) request answer count
 
@@ -110,8 +108,6 @@ module _ (s m : Shape) (space : Range) (held gaps clear : ℕ) (can_split : Bool
         IsAnswered s m can_split request (taken_range answer) count
     answered v e = record {
       grants = λ counted few. grants_if counted few e;
-      enters = entered_if_valid s request count v
-          (subst (λ (v : Range). count ≡ nodes_of_request request v s) h.is_space a.exact);
       steps = valid_count (height_of s) (state_of s) request (taken_range answer) count v
           (subst (λ (v : AddressState). IsGrantCount (height_of s) v request (taken_range answer) count) state_is a.steps);
       search = subst (λ (v : AddressState). SearchesGaps (height_of s) v request (taken_range answer) count) state_is a.search;

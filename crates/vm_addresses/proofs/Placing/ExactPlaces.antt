@@ -16,11 +16,11 @@ use Rattle.vm_ranges.specs.Address.{AddressState, AreClear}
 use Rattle.vm_ranges.specs.Answer.{SPLIT_LIMIT_MIN_HELD, ByStart, ByExactPolicy, AllocatesAt, Grants}
 use Rattle.vm_ranges.specs.Windows.{window_in}
 use Rattle.vm_leaf.specs.SpaceBlocks.{blocks_state, TilesSpace}
-use Rattle.vm_tree.specs.Allocation.{window_of, ListPlace, SettlesAt, SettlesIn, IsBlockAt, AllocatesExact}
-use Rattle.vm_tree.specs.declared.search.Search.{Search}
-use Rattle.vm_tree.specs.declared.search.Taken.{Taken}
-use Rattle.vm_tree.specs.declared.search.Refusal.{Refusal}
-use Rattle.vm_tree.specs.declared.search.Refusal.TheVariants.{NoPlace, Held, PastMax, CannotSplit, OutOfMemory as NoMemory}
+use Rattle.vm_space.specs.Allocation.{window_of, ListPlace, SettlesAt, SettlesIn, IsBlockAt, AllocatesExact}
+use Rattle.vm_space.specs.declared.search.Search.{Search}
+use Rattle.vm_space.specs.declared.search.Taken.{Taken}
+use Rattle.vm_space.specs.declared.search.Refusal.{Refusal}
+use Rattle.vm_space.specs.declared.search.Refusal.TheVariants.{NoPlace, Held, PastMax, CannotSplit, OutOfMemory as NoMemory}
 use Rattle.vm_ranges.proofs.PlainWords.{held_contains}
 use Rattle.vm_leaf.proofs.Spaces.OneList.{same_block}
 use Rattle.vm_addresses.proofs.Results.Requests.{request_in, with_policy}

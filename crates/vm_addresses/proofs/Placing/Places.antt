@@ -19,13 +19,13 @@ use Rattle.vm_ranges.specs.Address.{AddressState, SplitsGap, holding}
 use Rattle.vm_ranges.specs.Answer.{SPLIT_LIMIT_MIN_HELD, IsChosen, AllocatesAt, Grants}
 use Rattle.vm_leaf.specs.SpaceBlocks.{held_of, blocks_state, TilesSpace}
 use Rattle.vm_addresses.proofs.Blocks.BlockOrder.{NeedsSplit}
-use Rattle.vm_tree.specs.Allocation.{ListPlace, IsPlaceIn, IsClosestPlace, range_at, window_of, HasNoPlace, SettlesAt, IsTakenAt, IsSplitAt, AllocatesFit}
-use Rattle.vm_tree.specs.declared.end.End.{End}
-use Rattle.vm_tree.specs.declared.end.End.TheVariants.{First, Last}
-use Rattle.vm_tree.specs.declared.search.Search.{Search}
-use Rattle.vm_tree.specs.declared.search.Taken.{Taken}
-use Rattle.vm_tree.specs.declared.search.Refusal.{Refusal}
-use Rattle.vm_tree.specs.declared.search.Refusal.TheVariants.{NoPlace, Held, PastMax, CannotSplit, OutOfMemory as NoMemory}
+use Rattle.vm_space.specs.Allocation.{ListPlace, IsPlaceIn, IsClosestPlace, range_at, window_of, HasNoPlace, SettlesAt, IsTakenAt, IsSplitAt, AllocatesFit}
+use Rattle.vm_btree.specs.declared.end.End.{End}
+use Rattle.vm_btree.specs.declared.end.End.TheVariants.{First, Last}
+use Rattle.vm_space.specs.declared.search.Search.{Search}
+use Rattle.vm_space.specs.declared.search.Taken.{Taken}
+use Rattle.vm_space.specs.declared.search.Refusal.{Refusal}
+use Rattle.vm_space.specs.declared.search.Refusal.TheVariants.{NoPlace, Held, PastMax, CannotSplit, OutOfMemory as NoMemory}
 use Rattle.vm_addresses.proofs.Counts.LeftClear.{needs_split}
 use Rattle.vm_addresses.proofs.Placing.TakenRanges.{blocks_split, leaves_clear, as_blocks}
 use Rattle.vm_addresses.proofs.Choosing.WindowPlaces.{lowest_place_in, highest_place_in, no_place_in}

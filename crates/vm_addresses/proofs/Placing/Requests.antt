@@ -29,6 +29,7 @@ use Rattle.std.proofs.Common.{
   Ok,
   Err,
   OnErr,
+  IfErr,
   IfOk,
   IsOk,
   Option,
@@ -37,39 +38,37 @@ use Rattle.std.proofs.Common.{
   ltb,
   leb,
 }
-use Rattle.std.specs.Prelude.{◌&&◌}
+use Rattle.std.specs.Prelude.{min}
 use Rattle.std.specs.List.{list_any}
-use Rattle.std.proofs.lemmas.Bool.{cases_lt, lt-ltb, le-leb, ltb-true, leb-true, and_parts, false_from_ne_true}
+use Rattle.std.proofs.lemmas.Bool.{cases_lt}
 use Rattle.vm_ranges.specs.Cases.{IsTestOf}
 use Rattle.vm_ranges.specs.Range.{Range, MAX, IsIn, span}
 use Rattle.vm_ranges.specs.Request.{Request, IsRequest}
 use Rattle.vm_ranges.specs.declared.error.Error.{Error}
-use Rattle.vm_ranges.specs.declared.error.Error.TheVariants.{Overflow, ResourceNotAvailable}
+use Rattle.vm_ranges.specs.declared.error.Error.TheVariants.{Overflow, ResourceNotAvailable, OutOfMemory}
 use Rattle.vm_ranges.specs.declared.constraint.AllocPolicy.TheVariants.{ExactMatch}
 use Rattle.vm_ranges.specs.declared.state.NodeState.TheVariants.{Free, Allocated}
 use Rattle.vm_ranges.specs.declared.state.NodeState.{NodeState}
 use Rattle.vm_leaf.specs.declared.block.Block.{Block}
 use Rattle.vm_leaf.specs.Block.{free_block}
 use Rattle.vm_ranges.specs.Windows.{common, part_in, window_in}
-use Rattle.vm_tree.specs.Allocation.{ListPlace, window_of, IsPlaceIn, SettlesAt, SettlesIn, IsSearch, AllocatesExact, AllocatesFit, IsClosestPlace}
-use Rattle.vm_tree.specs.GapSearch.{IsSearchCount, gaps_without_place}
-use Rattle.vm_tree.specs.Heights.{held_blocks, one_if_held}
-use Rattle.vm_tree.specs.NodeCounts.{has_fit_in, nodes_to_address, nodes_to_fit}
-use Rattle.vm_tree.specs.Placing.{IsStartIn}
-use Rattle.vm_tree.specs.Roots.{IsBlockTree, IsPathLength}
-use Rattle.vm_tree.specs.Shape.{Shape, blocks, height_of}
-use Rattle.vm_tree.specs.declared.end.End.{End}
-use Rattle.vm_tree.specs.declared.end.End.TheVariants.{First, Last}
-use Rattle.vm_tree.specs.declared.search.Search.{Search}
-use Rattle.vm_tree.specs.declared.search.Taken.{Taken}
-use Rattle.vm_tree.specs.declared.search.Refusal.{Refusal}
-use Rattle.vm_tree.specs.declared.search.Refusal.TheVariants.{NoPlace, Held, PastMax, OutOfMemory as NoMemory, CannotSplit}
-use Rattle.vm_tree.proofs.Searched.{none_missed, none_closest}
-use Rattle.vm_tree.proofs.Heights.{high_tree_held}
+use Rattle.vm_space.specs.Allocation.{ListPlace, window_of, IsPlaceIn, SettlesAt, SettlesIn, HasNoPlace, IsOutOfMemory, IsSearch, AllocatesExact, AllocatesFit, IsClosestPlace}
+use Rattle.vm_space.specs.NodeCounts.{has_fit_in, IsSearchCount}
+use Rattle.vm_space.specs.Trees.{held_blocks, one_if_held, IsBlockTree}
+use Rattle.vm_space.specs.Spares.{HasSpare}
+use Rattle.vm_space.specs.Placing.{IsStartIn}
+use Rattle.vm_space.specs.Shape.{Shape, blocks, height_of, node_count}
+use Rattle.vm_btree.specs.declared.end.End.{End}
+use Rattle.vm_btree.specs.declared.end.End.TheVariants.{First, Last}
+use Rattle.vm_space.specs.declared.search.Search.{Search}
+use Rattle.vm_space.specs.declared.search.Taken.{Taken}
+use Rattle.vm_space.specs.declared.search.Refusal.{Refusal}
+use Rattle.vm_space.specs.declared.search.Refusal.TheVariants.{NoPlace, Held, PastMax, OutOfMemory as NoMemory, CannotSplit}
+use Rattle.vm_space.proofs.SearchedBlocks.{none_found}
+use Rattle.vm_ranges.proofs.Power.{alignment_pos}
 use Rattle.vm_ranges.specs.Address.{AddressState}
 use Rattle.vm_ranges.specs.Answer.{SPLIT_LIMIT_MIN_HELD, ByStart, ByExactPolicy, Grants}
 use Rattle.vm_addresses.specs.Counts.GapSearch.{SearchesGaps}
-use Rattle.vm_addresses.specs.Counts.NodeCounts.{nodes_of_request, nodes_by_policy, is_looked_for, has_address}
 use Rattle.vm_addresses.specs.Counts.Steps.{max_entered, IsGrantCount}
 use Rattle.vm_addresses.specs.Tree.Allocation.{with_error, taken_range, IsSearchOf, Takes, IsAllocation}
 use Rattle.vm_leaf.specs.SpaceBlocks.{range_if_held, held_of, blocks_state, TilesSpace}
@@ -89,15 +88,6 @@ pub held_blocks_are : (bs : List Block) → held_blocks bs ≡ length (held_of b
 held_blocks_are [] = refl
 held_blocks_are (b ∷ bs) = one_of b.state b.key (held_blocks bs) (held_of bs) (held_blocks_are bs)
 
--- A tree in which gaps are split is low.
-pub low_if_few : (s : Shape) (can_split : Bool) → IsBlockTree s →
-    (can_split ≡ true → length (held_of (blocks s)) ≤ SPLIT_LIMIT_MIN_HELD) → can_split ≡ true → height_of s < 48
-low_if_few s can_split h t e =
-    ⊎_elim
-    (λ (l : height_of s < 48). l)
-    (λ (l : 48 ≤ height_of s). absurd (omega (arith, high_tree_held s h.tree h.run l, held_blocks_are (blocks s), t e)))
-    (cases_lt (height_of s) 48)
-
 -- ---- The meaning of a refusal and of a range
 -- The place is in a gap of the list, and the range of the search lies in this gap.
 record IsPlaceOf (search : Search) (old : List Block) (place : ListPlace) : Type 0 where
@@ -110,6 +100,15 @@ settled_takes : (search : Search) (n : ℕ) (old new : List Block) (range : Rang
 settled_takes search n old new range place (Ok taken) e s h = record
     { search = search; size = e; split = refl; range = record { place = place; cut = s.cut; in_gap = s.in_gap; at = h } }
 settled_takes search n old new range place (Err e) is s h = tt
+
+-- ---- A search without a place
+-- The answer NoPlace is returned only if there is no place.
+none_closest : (end : End) (search : Search) (old new : List Block) → AllocatesFit end search old new (Err NoPlace) → HasNoPlace search old
+none_closest end search old new h = elim h [ inl x ↦ x.0 | inr x ↦ absurd x.2 ]
+
+none_missed : (search : Search) → IsSearch search → (bs : List Block) → HasNoPlace search bs
+    → list_any (has_fit_in (window_of search) search.size search.alignment) bs ≡ false
+none_missed search valid bs h = none_found (window_of search) search.size search.alignment bs (alignment_pos search.alignment valid.aligned) h
 
 -- ---- The parts that do not depend on the policy
 unchanged_if : (range : Range) (old new : Shape) (found : Result Taken Refusal) → OnErr found (new ≡ old) →
@@ -130,25 +129,35 @@ no_place_if range (Err PastMax) e = absurd (cc e)
 no_place_if range (Err (NoMemory x)) e = absurd (cc e)
 no_place_if range (Err CannotSplit) e = absurd (cc e)
 
+was_ok : (range : Range) (found : Result Taken Refusal) → IsOk (taken_range (with_error range found)) → IsOk found
+was_ok range (Ok taken) o = refl
+was_ok range (Err e) o = absurd (cc o)
+
+-- A search that did not lack memory.
+no_lack : (range : Range) (found : Result Taken Refusal) → IfErr found (λ refusal. ¬ IsOutOfMemory refusal) → with_error range found ≢ Err OutOfMemory
+no_lack range (Ok taken) h e = absurd (cc e)
+no_lack range (Err NoPlace) h e = absurd (cc e)
+no_lack range (Err Held) h e = absurd (cc e)
+no_lack range (Err PastMax) h e = absurd (cc e)
+no_lack range (Err (NoMemory x)) h e = h tt
+no_lack range (Err CannotSplit) h e = absurd (cc e)
+
+pub with_spare : (s : Shape) (spare : Option ℕ) (range : Range) (found : Result Taken Refusal)
+    → (HasSpare (held_blocks (blocks s)) spare → IfErr found (λ refusal. ¬ IsOutOfMemory refusal))
+    → HasSpare (length (held_of (blocks s))) spare → with_error range found ≢ Err OutOfMemory
+with_spare s spare range found f h = no_lack range found (f (subst (λ (k : ℕ). HasSpare k spare) (sym (held_blocks_are (blocks s))) h))
+
 success_path : (h count : ℕ) (range : Range) (found : Result Taken Refusal) → (found ≢ Err NoPlace → h ≤ 2 * count) →
     IsOk (taken_range (with_error range found)) → h ≤ 2 * count
 success_path h count range (Ok taken) p o = p (λ e. absurd (cc e))
 success_path h count range (Err e) p o = absurd (cc o)
 
-high_tree : (s : Shape) → 1 ≤ height_of s
-high_tree (Rattle.vm_tree.specs.Shape.Tip bs) = omega arith
-high_tree (Rattle.vm_tree.specs.Shape.Fork l r) = omega arith
-
-steps_of : (request : Request) (state : AddressState) (s : Shape) (answer : Result Range Error) (count : ℕ) →
+steps_of : (request : Request) (state : AddressState) (s : Shape) (answer : Result Range Error) (count : ℕ) → 1 ≤ height_of s →
     count ≤ max_entered request.policy (height_of s) (length state.held) → (IsOk answer → height_of s ≤ 2 * count) →
     IsGrantCount (height_of s) state request answer count
-steps_of request state s answer count m p = record { most = m; success = λ o. omega (arith, p o, high_tree s); path = p }
+steps_of request state s answer count l m p = record { most = m; success = λ o. omega (arith, p o, l); path = p }
 
 -- ---- The place that is closest to an end
-nodes_by_end : (end : End) (sp w : Range) (n a : ℕ) (s : Shape) → nodes_by_policy (policy_of end) sp w n a s ≡ nodes_to_fit end w n a s
-nodes_by_end First sp w n a s = refl
-nodes_by_end Last sp w n a s = refl
-
 upto_end : (end : End) (h n count : ℕ) → count ≤ 2 * n + 1 → count ≤ max_entered (policy_of end) h n
 upto_end First h n count p = p
 upto_end Last h n count p = p
@@ -157,12 +166,10 @@ module _ (sp : Range) (old new : Shape) (tiles : TilesSpace sp (blocks old)) (ra
     (request : Request) (search : Search) (valid : IsRequest request) (is : IsSearchOf request sp search)
     (searched : IsSearch search) (r : Range) (found : Result Taken Refusal) (u : OnErr found (new ≡ old)) (count : ℕ) where
   abbrev bounds : Type 0
-  bounds = IsSearchCount (window_of search) search.size search.alignment
-      (gaps_without_place (window_of search) search.size search.alignment (blocks old)) old count
+  bounds = IsSearchCount (window_of search) search.size search.alignment (height_of old) (node_count old) (blocks old) count
 
   same_bounds : bounds →
-      IsSearchCount (window_in request.window sp) request.size request.align
-      (gaps_without_place (window_in request.window sp) request.size request.align (blocks old)) old count
+      IsSearchCount (window_in request.window sp) request.size request.align (height_of old) (node_count old) (blocks old) count
   same_bounds b = rw (← is.window, ← is.size, ← is.align) b
 
   same_none : list_any (has_fit_in (window_of search) search.size search.alignment) (blocks old) ≡ false →
@@ -179,27 +186,19 @@ module _ (sp : Range) (old new : Shape) (tiles : TilesSpace sp (blocks old)) (ra
   all_of : ((counted : ℕ) → IsTestOf search.can_split (counted < SPLIT_LIMIT_MIN_HELD) →
       Grants counted (blocks_state sp (blocks old)) request (taken_range (with_error r found)) (blocks_state sp (blocks new))) →
       IfOk (with_error r found) (λ taken. Takes search.can_split request.size (blocks old) (blocks new) taken)
-      → count ≡ nodes_of_request request sp old →
-      IsGrantCount (height_of old) (blocks_state sp (blocks old)) request (taken_range (with_error r found)) count
+      → IsGrantCount (height_of old) (blocks_state sp (blocks old)) request (taken_range (with_error r found)) count
       → SearchesGaps (height_of old) (blocks_state sp (blocks old)) request (taken_range (with_error r found)) count →
       IsAllocation request sp search.can_split old new (with_error r found) count
-  all_of g t e s a = record {
+  all_of g t s a = record {
     granted = g;
     taken = t;
     unchanged = unchanged_if r old new found u;
-    exact = e;
     steps = s;
     search = a;
   }
 
   module _ (end : End) (policy : request.policy ≡ policy_of end) (h : AllocatesFit end search (blocks old) (blocks new) found)
-      (exact : count ≡ nodes_to_fit end (window_of search) search.size search.alignment old) (b : bounds)
-      (path : found ≢ Err NoPlace → height_of old ≤ 2 * count) where
-    fit_exact : count ≡ nodes_of_request request sp old
-    unfolding nodes_of_request
-    fit_exact = rw (policy, ← is.window, ← is.size, ← is.align)
-        (exact ∙ sym (nodes_by_end end sp (window_of search) search.size search.alignment old))
-
+      (b : bounds) (path : found ≢ Err NoPlace → min (height_of old) MAX ≤ count) where
     fit_most : count ≤ max_entered request.policy (height_of old) (length (held_of (blocks old)))
     fit_most = rw policy (upto_end end (height_of old) (length (held_of (blocks old))) count (upto_held b))
 
@@ -210,9 +209,8 @@ module _ (sp : Range) (old new : Shape) (tiles : TilesSpace sp (blocks old)) (ra
         (blocks_unchanged old new found u) h)
         (⊎_elim (λ n. takes_none n.1) (λ s. settled_takes search request.size (blocks old) (blocks new) r s.0 found is.size
         (place_of s.0 s.1) s.2) h)
-        fit_exact
-        (steps_of request (blocks_state sp (blocks old)) old (taken_range (with_error r found)) count fit_most
-        (success_path (height_of old) count r found path))
+        (steps_of request (blocks_state sp (blocks old)) old (taken_range (with_error r found)) count tree.high fit_most
+        (success_path (height_of old) count r found (λ n. omega (arith, path n, tree.height))))
         (searches request sp old (taken_range (with_error r found)) count tiles range (same_bounds b)
         (λ e. same_none (none_missed search searched (blocks old)
         (none_closest end search (blocks old) (blocks new)
@@ -223,19 +221,6 @@ module _ (sp : Range) (old new : Shape) (tiles : TilesSpace sp (blocks old)) (ra
             { cut = s.cut; in_gap = k.0 }
 
 -- ---- The named place
--- Is looked for if it is in the space and in the window, and its range does not pass MAX.
-looked_for : (r : Range) (n t : ℕ) → IsIn r t → t < MAX → t + n ≤ MAX + 1 → is_looked_for r n t ≡ true
-unfolding is_looked_for
-looked_for r n t i m u = rw (le-leb r.start t i.0, le-leb t r.end i.1, lt-ltb t MAX m, le-leb (t + n) (MAX + 1) u) refl
-
-not_looked_for : (r : Range) (n t : ℕ) → (IsIn r t → t < MAX → t + n ≤ MAX + 1 → ⊥) → is_looked_for r n t ≡ false
-unfolding is_looked_for
-not_looked_for r n t out = false_from_ne_true _ (λ e.
-    let p = and_parts (has_address r t) (ltb t MAX && leb (t + n) (MAX + 1)) e in
-    let q = and_parts (leb r.start t) (leb t r.end) p.0 in
-    let m = and_parts (ltb t MAX) (leb (t + n) (MAX + 1)) p.1 in
-    out (leb-true _ _ q.0, leb-true _ _ q.1) (ltb-true _ _ m.0) (leb-true _ _ m.1))
-
 -- The addresses of the window in the space.
 seen_space : (w : Option Range) (sp : Range) (t : ℕ) → IsIn (part_in w sp) t → IsIn (common (window_in w sp) sp) t
 seen_space None sp t i = (omega (arith, i.0), omega (arith, i.1))
@@ -256,23 +241,13 @@ module _ (sp : Range) (old : Shape) (request : Request) (search : Search) (t : �
   not_seen : (IsIn seen t → ⊥) → IsIn (part_in request.window sp) t → ⊥
   not_seen out i = out (subst (λ (w : Range). IsIn (common w sp) t) (sym is.window) (seen_space request.window sp t i))
 
-  none_entered : (IsIn seen t → t < MAX → t + search.size ≤ MAX + 1 → ⊥) → 0 ≡ nodes_of_request request sp old
-  unfolding nodes_of_request
-  none_entered out = rw (policy, ← is.window, ← is.size, not_looked_for seen search.size t out) refl
-
-  some_entered : (count : ℕ) → IsIn seen t → t < MAX → t + search.size ≤ MAX + 1 → count ≡ nodes_to_address t old →
-      count ≡ nodes_of_request request sp old
-  unfolding nodes_of_request
-  some_entered count i m u e = rw (policy, ← is.window, ← is.size, looked_for seen search.size t i m u) e
-
   -- An error before the search.
   refused : (can_split : Bool) (e : Error) → ((counted : ℕ) → Grants counted (blocks_state sp (blocks old)) request (Err e) (blocks_state sp (blocks old))) →
-      0 ≡ nodes_of_request request sp old → IsAllocation request sp can_split old old (Err e) 0
-  refused can_split e g c = record {
+      IsAllocation request sp can_split old old (Err e) 0
+  refused can_split e g = record {
     granted = λ counted few. g counted;
     taken = tt;
     unchanged = refl;
-    exact = c;
     steps = record { most = omega arith; success = λ o. absurd (cc o); path = λ o. absurd (cc o) };
     search = exact_searches request t (height_of old) (blocks_state sp (blocks old)) (Err e) 0 policy;
   }
@@ -302,17 +277,16 @@ module _ (sp : Range) (old : Shape) (request : Request) (search : Search) (t : �
   over_grants counted m i o = inr (λ e. omega arith, inr (i, inl (o, (refl, refl))))
 
   pub exact_at_max : (can_split : Bool) → t ≡ MAX → IsAllocation request sp can_split old old (Err Overflow) 0
-  exact_at_max can_split e = refused can_split Overflow (λ counted. by_start counted Overflow (at_max_grants counted e)) (none_entered (λ i m u. omega (arith, e, m)))
+  exact_at_max can_split e = refused can_split Overflow (λ counted. by_start counted Overflow (at_max_grants counted e))
 
   pub exact_outside : (can_split : Bool) → t < MAX → (IsIn seen t → ⊥) →
       IsAllocation request sp can_split old old (Err ResourceNotAvailable) 0
   exact_outside can_split m out = refused can_split ResourceNotAvailable (λ counted. by_start counted ResourceNotAvailable (outside_grants counted m (not_seen out)))
-      (none_entered (λ i m u. out i))
 
   pub exact_over : (can_split : Bool) → t < MAX → IsIn seen t → MAX < t + (search.size - 1) →
       IsAllocation request sp can_split old old (Err Overflow) 0
   exact_over can_split m i o = refused can_split Overflow
-      (λ counted. by_start counted Overflow (over_grants counted m (as_seen i) (omega (arith, o, is.size, valid.some)))) (none_entered (λ i m u. omega (arith, u, o)))
+      (λ counted. by_start counted Overflow (over_grants counted m (as_seen i) (omega (arith, o, is.size, valid.some))))
 
 module _ (sp : Range) (old new : Shape) (tiles : TilesSpace sp (blocks old)) (request : Request) (search : Search) (t : ℕ)
     (valid : IsRequest request) (is : IsSearchOf request sp search) (policy : request.policy ≡ ExactMatch t)
@@ -349,16 +323,15 @@ module _ (sp : Range) (old new : Shape) (tiles : TilesSpace sp (blocks old)) (re
       (record { lower = h.lower; key = h.block.key; upper = h.upper; start = t }) found is.size (place_at (sym e) fits) l.1)
       k
 
-  pub exact_allocation : count ≡ nodes_to_address t old → IsPathLength old count →
+  pub exact_allocation : IsBlockTree old → count ≤ height_of old → (IsOk found → min (height_of old) MAX ≤ count) →
       IsAllocation request sp search.can_split old new (with_error range found) count
-  exact_allocation exact path = record {
+  exact_allocation tree most path = record {
     granted = λ counted few. exact_grants sp (blocks old) tiles request search valid is counted few t policy m (omega arith)
         (omega (arith, i.0), omega (arith, i.1)) (blocks new) found (blocks_unchanged old new found u) h;
     taken = taken_by h.block.state refl h.settles;
     unchanged = unchanged_if range old new found u;
-    exact = some_entered sp old request search t valid is policy count i m upto exact;
-    steps = steps_of request (blocks_state sp (blocks old)) old (taken_range (with_error range found)) count (rw policy path.upto)
-        (λ o. path.least);
+    steps = steps_of request (blocks_state sp (blocks old)) old (taken_range (with_error range found)) count tree.high (rw policy most)
+        (λ o. omega (arith, path (was_ok range found o), tree.height));
     search = exact_searches request t (height_of old) (blocks_state sp (blocks old)) (taken_range (with_error range found)) count policy;
   }
 
@@ -368,6 +341,4 @@ pub start_in : (sp : Range) (bs : List Block) (search : Search) (t : ℕ) → Ti
 start_in sp bs search t tiles r from upto low high fits = let e = ends sp bs tiles r in record
     { from = omega (arith, e.start); upto = omega (arith, e.end); low = low; high = high; fits = fits }
 
-pub ruleset allocating = (low_if_few)
-
-pub ruleset allocating_exact = (exact_at_max, exact_outside, exact_over, exact_allocation, start_in, low_if_few)
+pub ruleset allocating_exact = (exact_at_max, exact_outside, exact_over, exact_allocation, start_in)

@@ -8,7 +8,7 @@ use Rattle.vm_ranges.specs.Request.{Request, ByPolicy, IsStartAligned, IsRequest
 use Rattle.vm_ranges.specs.declared.constraint.AllocPolicy.{AllocPolicy}
 use Rattle.vm_ranges.specs.declared.constraint.AllocPolicy.TheVariants.{FirstMatch, LastMatch, ExactMatch}
 use Rattle.vm_ranges.specs.Address.{AddressState, IsAddressState, IsPlace, AreClear, releasing, without_range, AreInOrder}
-use Rattle.vm_tree.specs.Walks.{meets}
+use Rattle.vm_space.specs.Walks.{meets}
 use Rattle.vm_ranges.proofs.PlainWords.{held_contains}
 use Rattle.vm_addresses.proofs.Results.AddressResults.{freed_state, releases_held}
 use Rattle.vm_addresses.specs.Queries.{meeting}

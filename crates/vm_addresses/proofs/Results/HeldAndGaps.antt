@@ -29,7 +29,7 @@ use Rattle.vm_addresses.proofs.Blocks.GapLists.{
   all_counted,
 }
 use Rattle.vm_leaf.proofs.Spaces.Tilings.{held_of-blocks_of}
-use Rattle.vm_tree.proofs.BlockCursors.{between_tiles}
+use Rattle.vm_space.proofs.BlockCursors.{between_tiles}
 
 -- A held address is in a held range.
 pub held_range : (rs : List Range) (x : ℕ) → IsHeldAddress rs x → (r : Range) × IsHeld rs r × IsIn r x

@@ -46,7 +46,7 @@ use Rattle.vm_ranges.specs.Address.{AddressState, IsClear}
 use Rattle.vm_addresses.specs.Allocator.{state_of, made_state}
 use Rattle.vm_ranges.specs.ListErrors.{by_error}
 use Rattle.vm_ranges.specs.declared.error.ListError.{ListError}
-use Rattle.vm_tree.specs.Shape.{Shape}
+use Rattle.vm_space.specs.Shape.{Shape}
 use Rattle.vm_addresses.specs.Held.{first_fault, fault_index, BySpace, MakesHeld}
 use Rattle.vm_leaf.specs.Block.{held_block}
 use Rattle.vm_leaf.specs.SpaceBlocks.{blocks_between, gap_before}

@@ -4,7 +4,7 @@ use Rattle.vm_ranges.specs.Range.{Range, MAX, span}
 use Rattle.vm_ranges.specs.Answer.{Makes}
 use Rattle.vm_ranges.specs.Address.{AddressState}
 use Rattle.vm_ranges.specs.declared.error.Error.{Error}
-use Rattle.vm_tree.specs.Shape.{Shape, blocks}
+use Rattle.vm_space.specs.Shape.{Shape, blocks}
 use Rattle.vm_addresses.specs.Allocator.{space_of, state_of}
 use Rattle.vm_addresses.proofs.Trees.HeldTrees.{held_made}
 use Rattle.vm_addresses.specs.Held.{BySpace, MakesSpace, MakesHeld, MakesWithHeld, HasFaultIndex, fault_index}

@@ -5,7 +5,7 @@ use Rattle.std.specs.List.{Contains}
 use Rattle.vm_ranges.specs.Range.{Range, IsIn, Overlaps, Covers}
 use Rattle.vm_ranges.proofs.RangeCalls.{meet}
 use Rattle.vm_ranges.specs.Address.{AddressState, IsAddressState}
-use Rattle.vm_tree.specs.Walks.{meets}
+use Rattle.vm_space.specs.Walks.{meets}
 use Rattle.vm_addresses.specs.Queries.{gaps_of, meeting}
 use Rattle.vm_leaf.specs.SpaceBlocks.{blocks_of}
 use Rattle.vm_addresses.specs.Facts.{ListsOverlaps, IsClearIfNoneMeets}

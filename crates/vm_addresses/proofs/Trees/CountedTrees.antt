@@ -4,7 +4,7 @@ use Rattle.std.proofs.lemmas.Bool.{cases_lt, lt-ltb, le-ltb}
 use Rattle.std.specs.List.{Contains}
 use Rattle.vm_ranges.specs.Range.{Range, MAX, address_count}
 use Rattle.vm_ranges.specs.declared.state.NodeState.TheVariants.{Allocated}
-use Rattle.vm_tree.specs.Shape.{Shape, blocks}
+use Rattle.vm_space.specs.Shape.{Shape, blocks}
 use Rattle.vm_ranges.specs.Address.{AddressState, with_range, holding, releasing}
 use Rattle.vm_addresses.specs.Tree.CountedTrees.{IsCountedTree}
 use Rattle.vm_addresses.specs.Queries.{free_of, count_of}

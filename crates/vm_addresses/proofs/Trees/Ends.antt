@@ -5,7 +5,7 @@ use Rattle.vm_ranges.specs.declared.state.NodeState.TheVariants.{Allocated}
 use Rattle.vm_leaf.specs.declared.block.Block.{Block}
 use Rattle.vm_leaf.specs.Blocks.{start_of, end_of}
 use Rattle.vm_leaf.proofs.Tiles.{tiles_part}
-use Rattle.vm_tree.specs.GapSearch.{IsWholeWindow}
+use Rattle.vm_space.specs.NodeCounts.{IsWholeWindow}
 use Rattle.vm_leaf.specs.SpaceBlocks.{TilesSpace}
 
 -- The ends of the blocks of a space are those of the space.

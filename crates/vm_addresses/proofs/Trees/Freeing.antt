@@ -1,5 +1,5 @@
 -- From the blocks that a free leaves to the result of the call.
-use Rattle.std.proofs.Common.{◌≡◌, ℕ, suc, ◌+◌, ◌-◌, List, [], ◌∷◌, ◌++◌, length, refl, sym, ap, ◌∙◌, arith, inl, inr, ◌⊎◌, ⊎_elim, subst, Ok, Err, cond, eqb, true, false}
+use Rattle.std.proofs.Common.{◌≡◌, ℕ, suc, ◌+◌, ◌-◌, List, [], ◌∷◌, ◌++◌, length, refl, sym, ap, ◌∙◌, arith, inl, inr, ◌⊎◌, ⊎_elim, subst, append_assoc, Ok, Err, cond, eqb, true, false}
 use Rattle.std.specs.List.{Contains}
 use Rattle.vm_ranges.specs.Range.{Range, IsIn}
 use Rattle.vm_ranges.specs.declared.error.Error.TheVariants.{ResourceNotAvailable}
@@ -7,10 +7,10 @@ use Rattle.vm_ranges.specs.declared.state.NodeState.{NodeState}
 use Rattle.vm_ranges.specs.declared.state.NodeState.TheVariants.{Free, Allocated}
 use Rattle.vm_leaf.specs.declared.block.Block.{Block}
 use Rattle.vm_leaf.specs.Block.{held_block}
-use Rattle.vm_leaf.specs.Blocks.{NotBothFree, nth, freed_between, with_free}
-use Rattle.vm_tree.specs.Frees.{FreesBlock, Holds}
-use Rattle.vm_tree.proofs.Frees.{freed_gap_before, freed_held_before}
-use Rattle.vm_tree.proofs.Lists.{cut_last}
+use Rattle.vm_leaf.specs.Blocks.{NotBothFree, nth, freed_between, freed_on, with_free}
+use Rattle.vm_space.specs.Frees.{FreesBlock, Holds}
+use Rattle.vm_space.proofs.Frees.{freed_under}
+use Rattle.vm_space.proofs.Lists.{cut_last}
 use Rattle.vm_ranges.specs.Address.{releasing, without_range}
 use Rattle.vm_ranges.specs.Answer.{Frees}
 use Rattle.vm_leaf.specs.SpaceBlocks.{held_of, blocks_state, TilesSpace, IsBlocksOf, AreBelowMax}
@@ -19,7 +19,7 @@ use Rattle.vm_leaf.proofs.Spaces.Gaps.{state_cases}
 use Rattle.vm_addresses.proofs.Trees.Joining.{EndsHeld, blocks_freed, blocks_freed_before, held_or_later, is_held, IsHeldBlock}
 use Rattle.vm_addresses.proofs.Placing.TakenRanges.{as_blocks}
 use Rattle.vm_addresses.specs.Allocator.{space_of, state_of, IsSpaceTree}
-use Rattle.vm_tree.specs.Shape.{Shape, blocks}
+use Rattle.vm_space.specs.Shape.{Shape, blocks}
 use Rattle.vm_addresses.proofs.Blocks.HeldSets.{held_lies}
 use Rattle.vm_addresses.proofs.Trees.CountedTrees.{FreesOne}
 use Rattle.vm_addresses.proofs.Trees.Spaces.{state_of_tree}
@@ -30,6 +30,19 @@ ends_held p [] x e = subst (λ (s : NodeState). NotBothFree s Free) (sym e) tt
 ends_held p (y ∷ xs) x e = ends_held y.state xs x e
 
 -- ---- A freed block
+-- A block after a gap: it is freed from the start of the gap on, which is dropped.
+freed_gap_before : (m : List Block) (g : Block) (us : List Block) (k : Range) → g.state ≡ Free
+    → m ++ with_free (record { start = g.key.start; end = k.end }) us ≡ freed_between (m ++ g ∷ []) k us
+freed_gap_before m g us k e =
+    ap (λ (z : List Block). m ++ z) (sym (ap (λ (s : NodeState). freed_on s g k us) e)) ∙ sym (freed_under m (g ∷ []) us k (omega arith))
+
+-- A block after a held block.
+freed_held_before : (m : List Block) (g : Block) (us : List Block) (k : Range) → g.state ≡ Allocated →
+    (m ++ g ∷ []) ++ with_free k us ≡ freed_between (m ++ g ∷ []) k us
+freed_held_before m g us k e =
+    append_assoc m (g ∷ []) (with_free k us) ∙ ap (λ (z : List Block). m ++ z) (sym (ap (λ (s : NodeState). freed_on s g k us) e))
+    ∙ sym (freed_under m (g ∷ []) us k (omega arith))
+
 module _ (sp : Range) (old : List Block) (tiles : TilesSpace sp old) (k : Range) where
   freed_first : (us : List Block) → old ≡ held_block k ∷ us → IsBlocksOf (releasing k (blocks_state sp old)) (with_free k us)
   freed_first us e = blocks_freed (blocks_state sp old) old [] us (held_block k) (as_blocks sp old tiles) e refl tt

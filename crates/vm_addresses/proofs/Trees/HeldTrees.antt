@@ -38,13 +38,13 @@ use Rattle.std.proofs.Common.{
 use Rattle.vm_ranges.specs.Range.{Range, MAX, IsRange, address_count}
 use Rattle.vm_ranges.specs.Address.{AddressState, IsAddressState, AreInOrder}
 use Rattle.vm_leaf.specs.SpaceBlocks.{blocks_between, blocks_of, held_of, AreBelowMax, IsTiling, TilesSpace}
-use Rattle.vm_tree.specs.Shape.{Shape, blocks}
+use Rattle.vm_space.specs.Shape.{Shape, blocks}
 use Rattle.vm_addresses.specs.Allocator.{state_of, IsSpaceTree}
 use Rattle.vm_addresses.specs.Queries.{count_of}
 use Rattle.vm_ranges.specs.Cases.{IfElse}
 use Rattle.vm_addresses.specs.Checks.HeldKeys.{CanBeHeld}
 use Rattle.vm_addresses.specs.Held.{range_fault, or_else, first_fault, MakesHeld}
-use Rattle.vm_tree.specs.Building.{IsBuiltTree}
+use Rattle.vm_space.specs.Building.{IsBuiltTree}
 use Rattle.vm_leaf.specs.TreeHeights.{TOO_MANY_BLOCKS}
 use Rattle.vm_addresses.specs.Tree.CountedTrees.{IsCountedTree}
 use Rattle.vm_ranges.specs.declared.state.NodeState.TheVariants.{Allocated}
@@ -54,7 +54,7 @@ use Rattle.vm_addresses.proofs.Blocks.GapLists.{all_counted}
 use Rattle.vm_leaf.proofs.Spaces.Tilings.{held_of-blocks_of}
 use Rattle.vm_addresses.proofs.Walking.HeldInTrees.{all_blocks}
 use Rattle.vm_addresses.proofs.Trees.Spaces.{space_tiled, space_tree}
-use Rattle.vm_tree.proofs.BlockCursors.{between_tiles}
+use Rattle.vm_space.proofs.BlockCursors.{between_tiles}
 
 below_max : (lo hi : ℕ) (rs : List Range) → AreInOrder lo rs hi → AreBelowMax rs
 below_max lo hi [] s = tt

@@ -6,7 +6,8 @@ use Rattle.vm_ranges.proofs.RangeCalls.{same_range}
 use Rattle.vm_leaf.specs.declared.block.Block.{Block}
 use Rattle.vm_leaf.specs.Block.{free_block}
 use Rattle.vm_leaf.specs.Blocks.{Tiles}
-use Rattle.vm_tree.specs.Shape.{Shape, Tip, blocks}
+use Rattle.vm_space.specs.Shape.{Shape, blocks}
+use Rattle.vm_btree.specs.Subtree.{leaf_of}
 use Rattle.vm_ranges.specs.Address.{IsAddressState}
 use Rattle.vm_addresses.specs.Tree.CountedTrees.{IsCountedTree}
 use Rattle.vm_leaf.specs.SpaceBlocks.{TilesSpace, IsTiling, blocks_of}
@@ -42,14 +43,14 @@ state_of_tree s h = is_state (space_of (blocks s)) (blocks s) h.tiling h.space
 pub ruleset states = (state_of_tree)
 
 -- ---- A new tree
-free_tree : (k : Range) → IsRange k.start k.end → IsSpaceTree (Tip (free_block k ∷ []))
+free_tree : (k : Range) → IsRange k.start k.end → IsSpaceTree (leaf_of (free_block k ∷ []))
 unfolding TilesSpace
-free_tree k r = space_tree k (Tip (free_block k ∷ [])) (record { tiles = (refl, r.0, tt, refl); below = tt }) r (omega arith)
+free_tree k r = space_tree k (leaf_of (free_block k ∷ [])) (record { tiles = (refl, r.0, tt, refl); below = tt }) r (omega arith)
 
-pub free_counted : (k : Range) → IsRange k.start k.end → IsCountedTree (Tip (free_block k ∷ [])) k 0 1 (address_count k)
+pub free_counted : (k : Range) → IsRange k.start k.end → IsCountedTree (leaf_of (free_block k ∷ [])) k 0 1 (address_count k)
 free_counted k r = record { tree = free_tree k r; is_space = refl; held_count = refl; gap_count = refl; free_len = omega arith }
 
-pub state_made : (s : Shape) (k : Range) → IsRange k.start k.end → s ≡ Tip (free_block k ∷ []) → IsAddressState (state_of s)
+pub state_made : (s : Shape) (k : Range) → IsRange k.start k.end → s ≡ leaf_of (free_block k ∷ []) → IsAddressState (state_of s)
 state_made s k r e = subst (λ (v : Shape). IsAddressState (state_of v)) (sym e) (record { space = r; in_order = tt })
 
 pub ruleset making = (free_counted, state_made)

@@ -10,7 +10,7 @@ use Rattle.vm_leaf.specs.BlockStarts.{starts_of, blocks_from, AreRanges}
 use Rattle.vm_leaf.specs.SpaceBlocks.{TilesSpace, held_of}
 use Rattle.vm_leaf.specs.declared.block.Block.{Block}
 use Rattle.vm_leaf.specs.declared.block.BlockStart.{BlockStart}
-use Rattle.vm_tree.specs.Shape.{Shape, blocks}
+use Rattle.vm_space.specs.Shape.{Shape, blocks}
 use Rattle.vm_saved_trees.specs.SavedTrees.{Saved, HasTreeOf}
 use Rattle.vm_saved_trees.specs.TreeValues.{EncodesSpaceTree}
 use Rattle.vm_saved_trees.specs.ValueNodes.{WritesTree}

@@ -5,8 +5,8 @@ use Rattle.vm_addresses.proofs.Blocks.HeldSets.{held_lies}
 use Rattle.vm_ranges.specs.Range.{Range, at_address}
 use Rattle.vm_leaf.specs.declared.block.Block.{Block}
 use Rattle.vm_leaf.specs.SpaceBlocks.{TilesSpace, held_of}
-use Rattle.vm_tree.specs.Lookups.{find_superset}
-use Rattle.vm_tree.specs.Shape.{Shape, blocks}
+use Rattle.vm_space.specs.Lookups.{find_superset}
+use Rattle.vm_space.specs.Shape.{Shape, blocks}
 use Rattle.vm_addresses.specs.Allocator.{space_of, state_of, IsSpaceTree}
 use Rattle.vm_addresses.specs.Queries.{free_of, IsRangeAt, IsHeldAt, IsGapAt}
 use Rattle.vm_ranges.specs.declared.state.NodeState.TheVariants.{Free, Allocated}

@@ -1,7 +1,7 @@
 -- The blocks of a tree, with their ranges and states.
 use Rattle.std.proofs.Common.{◌≡◌, map, sym, ap}
 use Rattle.std.proofs.lemmas.List.{map-append, length-map}
-use Rattle.vm_tree.specs.Shape.{Shape, blocks}
+use Rattle.vm_space.specs.Shape.{Shape, blocks}
 use Rattle.vm_addresses.specs.Allocator.{state_of, IsSpaceTree}
 use Rattle.vm_addresses.specs.Queries.{block_parts}
 use Rattle.vm_leaf.specs.SpaceBlocks.{blocks_of}

@@ -7,7 +7,7 @@ use Rattle.vm_leaf.specs.declared.block.Block.{Block}
 use Rattle.vm_leaf.specs.Block.{free_length}
 use Rattle.vm_leaf.specs.Blocks.{Tiles, longest_gap}
 use Rattle.vm_leaf.specs.SpaceBlocks.{TilesSpace}
-use Rattle.vm_tree.specs.Shape.{Shape, blocks}
+use Rattle.vm_space.specs.Shape.{Shape, blocks}
 use Rattle.vm_addresses.specs.Allocator.{space_of, state_of, IsSpaceTree}
 use Rattle.vm_addresses.specs.Queries.{range_if_free, free_of, gaps_of, longest_of, count_of}
 use Rattle.vm_ranges.specs.declared.state.NodeState.{NodeState}

@@ -4,7 +4,7 @@ use Rattle.std.proofs.lemmas.Bool.{cases_lt, lt-ltb, le-ltb, le-leb}
 use Rattle.vm_ranges.specs.Range.{Range}
 use Rattle.vm_addresses.specs.Queries.{common_count, count_if, longer_part, longest_of_parts, longest_part, meeting}
 use Rattle.vm_ranges.specs.Windows.{common}
-use Rattle.vm_tree.specs.Walks.{meets}
+use Rattle.vm_space.specs.Walks.{meets}
 
 -- The length of the longer of a range and a part.
 longer_count : (w : Range) (longest : Option Range) (g : Range) →

@@ -2,8 +2,8 @@
 use Rattle.std.proofs.Common.{◌≡◌, ap, ◌∙◌}
 use Rattle.vm_ranges.specs.Range.{Range}
 use Rattle.vm_ranges.specs.declared.state.NodeState.TheVariants.{Free, Allocated}
-use Rattle.vm_tree.specs.Shape.{Shape, blocks}
-use Rattle.vm_tree.specs.Walks.{meeting_blocks}
+use Rattle.vm_space.specs.Shape.{Shape, blocks}
+use Rattle.vm_space.specs.Walks.{meeting_blocks}
 use Rattle.vm_addresses.specs.Queries.{free_of, gaps_of, meeting}
 use Rattle.vm_leaf.specs.SpaceBlocks.{held_of}
 use Rattle.vm_addresses.specs.Allocator.{state_of, IsSpaceTree}

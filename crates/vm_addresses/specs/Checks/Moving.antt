@@ -9,6 +9,7 @@ use Rattle.vm_leaf.specs.Fit.{HasNoFit, IsFit, IsLowestFit, IsHighestFit}
 use Rattle.vm_ranges.specs.Address.{AddressState, IsClear, releasing}
 use Rattle.vm_ranges.specs.Answer.{SPLIT_LIMIT_MIN_HELD}
 use Rattle.vm_ranges.specs.Windows.{part_in, window_in}
+use Rattle.vm_space.specs.Spares.{HasSpare}
 use Rattle.vm_addresses.specs.declared.address_allocator.moving.BegunMove.{BegunMove}
 use Rattle.vm_ranges.specs.declared.error.Error.{Error}
 use Rattle.vm_ranges.specs.declared.error.Error.TheVariants.{Overflow, OutOfMemory}
@@ -24,7 +25,7 @@ pub record IsLeftGap (old : AddressState) (r gap : Range) : Type 0 where
 -- The result of beginning a move to the range q in the gap that r leaves. An error is one of the end of q, or of a split.
 abbrev pub BeginsInside : AddressState → Range → Range → Range → Result BegunMove Error → Type 0
 BeginsInside old r gap q (Ok begun) = (q.end < MAX) × (begun.range ≡ q) × (begun.is_allocated ≡ false) ×
-    (q ≢ r → q ≢ gap → begun.spare ≢ None) × (q ≢ gap → length old.held ≤ SPLIT_LIMIT_MIN_HELD)
+    (q ≢ r → q ≢ gap → HasSpare (length old.held) begun.spare) × (q ≢ gap → length old.held ≤ SPLIT_LIMIT_MIN_HELD)
 BeginsInside old r gap q (Err e) = IfElse (q.end ≡ MAX) (e ≡ Overflow) ((q ≢ gap) ×
     IfElse (SPLIT_LIMIT_MIN_HELD < length old.held) (e ≡ Overflow) (e ≡ OutOfMemory))
 

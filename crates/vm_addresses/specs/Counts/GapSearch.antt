@@ -10,7 +10,7 @@ use Rattle.vm_leaf.specs.SpaceBlocks.{blocks_of}
 use Rattle.vm_ranges.specs.Request.{Request, ByPolicy}
 use Rattle.vm_ranges.specs.declared.error.Error.{Error}
 use Rattle.vm_ranges.specs.declared.error.Error.TheVariants.{ResourceNotAvailable}
-use Rattle.vm_tree.specs.GapSearch.{is_misaligned, on_part}
+use Rattle.vm_space.specs.NodeCounts.{is_misaligned, on_part}
 
 -- The number of blocks that pass the test, or whose parts in the window do if there is a window.
 abbrev pub passing : Option Range → (Block → Bool) → List Block → ℕ

@@ -1,15 +1,11 @@
 -- The number of nodes that a call enters in a balanced tree.
 use Rattle.std.specs.Prelude.{◌≡◌, ℕ, ◌+◌, ◌*◌, ◌≤◌, Result, IsOk, Err, length}
 use Rattle.vm_ranges.specs.Range.{Range}
-use Rattle.vm_ranges.specs.Request.{Request, IsRequest, MakesConstraint}
+use Rattle.vm_ranges.specs.Request.{Request, MakesConstraint}
 use Rattle.vm_ranges.specs.declared.error.Error.{Error}
 use Rattle.vm_ranges.specs.declared.constraint.AllocPolicy.{AllocPolicy}
 use Rattle.vm_ranges.specs.declared.constraint.AllocPolicy.TheVariants.{FirstMatch, LastMatch, ExactMatch}
-use Rattle.vm_tree.specs.NodeCounts.{nodes_to_free}
-use Rattle.vm_tree.specs.Shape.{Shape, blocks, height_of}
 use Rattle.vm_ranges.specs.Address.{AddressState}
-use Rattle.vm_addresses.specs.Counts.NodeCounts.{nodes_of_request}
-use Rattle.vm_addresses.specs.Allocator.{space_of}
 
 -- The maximum number of nodes that a request enters in a tree of height h with k held ranges. FirstMatch and LastMatch can
 -- enter all nodes, and ExactMatch those of one path.
@@ -30,13 +26,8 @@ pub record IsAllocationCount (h : ℕ) (old : AddressState) (request : Request) 
   pub granting : IsGrantCount h old request answer count
   pub invalid : (e : Error) → MakesConstraint request (Err e) → count ≡ 0
 
--- The exact number of nodes that `allocate` enters: 0 if the request is invalid.
-pub record EntersToAllocate (s : Shape) (request : Request) (count : ℕ) : Type 0 where
-  pub invalid : (e : Error) → MakesConstraint request (Err e) → count ≡ 0
-  pub valid : IsRequest request → count ≡ nodes_of_request request (space_of (blocks s)) s
-
--- The nodes that `free` enters in a tree of height h are at most 3h: those of a path, and two more for each node on it. A
--- success enters exactly `nodes_to_free`.
-pub record IsFreeCount (s : Shape) (key : Range) (answer : Result (Unit {0}) Error) (count : ℕ) : Type 0 where
-  pub most : count ≤ 3 * height_of s
-  pub exact : IsOk answer → count ≡ nodes_to_free key s
+-- The nodes that `free` enters in a tree of height h are at most 3h: those of a path, and two more for each node on it. A success
+-- enters at least 1.
+pub record IsFreeCount (h : ℕ) (answer : Result (Unit {0}) Error) (count : ℕ) : Type 0 where
+  pub most : count ≤ 3 * h
+  pub success : IsOk answer → 1 ≤ count

@@ -7,15 +7,14 @@ use Rattle.vm_ranges.specs.declared.error.Error.{Error}
 use Rattle.vm_ranges.specs.declared.error.Error.TheVariants.{Overflow, ResourceNotAvailable, InvalidStateTransition, OutOfMemory}
 use Rattle.vm_ranges.specs.declared.state.NodeState.TheVariants.{Allocated}
 use Rattle.vm_leaf.specs.declared.block.Block.{Block}
-use Rattle.vm_tree.specs.Allocation.{ListPlace, window_of, IsPlaceIn, IsTakenAt}
-use Rattle.vm_tree.specs.Shape.{Shape, blocks, height_of}
-use Rattle.vm_tree.specs.declared.search.Search.{Search}
-use Rattle.vm_tree.specs.declared.search.Taken.{Taken}
-use Rattle.vm_tree.specs.declared.search.Refusal.{Refusal}
-use Rattle.vm_tree.specs.declared.search.Refusal.TheVariants.{NoPlace, Held, PastMax, OutOfMemory as NoMemory, CannotSplit}
+use Rattle.vm_space.specs.Allocation.{ListPlace, window_of, IsPlaceIn, IsTakenAt}
+use Rattle.vm_space.specs.Shape.{Shape, blocks, height_of}
+use Rattle.vm_space.specs.declared.search.Search.{Search}
+use Rattle.vm_space.specs.declared.search.Taken.{Taken}
+use Rattle.vm_space.specs.declared.search.Refusal.{Refusal}
+use Rattle.vm_space.specs.declared.search.Refusal.TheVariants.{NoPlace, Held, PastMax, OutOfMemory as NoMemory, CannotSplit}
 use Rattle.vm_ranges.specs.Answer.{SPLIT_LIMIT_MIN_HELD, Grants}
 use Rattle.vm_addresses.specs.Counts.GapSearch.{SearchesGaps}
-use Rattle.vm_addresses.specs.Counts.NodeCounts.{nodes_of_request}
 use Rattle.vm_addresses.specs.Counts.Steps.{IsGrantCount}
 use Rattle.vm_leaf.specs.SpaceBlocks.{blocks_state}
 use Rattle.vm_ranges.specs.Windows.{window_in}
@@ -66,6 +65,5 @@ pub record IsAllocation (request : Request) (space : Range) (can_split : Bool) (
       Grants counted (blocks_state space (blocks old)) request (taken_range answer) (blocks_state space (blocks new))
   pub taken : IfOk answer (λ taken. Takes can_split request.size (blocks old) (blocks new) taken)
   pub unchanged : OnErr answer (new ≡ old)
-  pub exact : count ≡ nodes_of_request request space old
   pub steps : IsGrantCount (height_of old) (blocks_state space (blocks old)) request (taken_range answer) count
   pub search : SearchesGaps (height_of old) (blocks_state space (blocks old)) request (taken_range answer) count

@@ -1,7 +1,7 @@
 -- Trees with what is stored beside them.
 use Rattle.std.specs.Prelude.{◌≡◌, ℕ, length}
 use Rattle.vm_ranges.specs.Range.{Range}
-use Rattle.vm_tree.specs.Shape.{Shape, blocks}
+use Rattle.vm_space.specs.Shape.{Shape, blocks}
 use Rattle.vm_addresses.specs.Queries.{free_of, count_of}
 use Rattle.vm_leaf.specs.SpaceBlocks.{held_of}
 use Rattle.vm_addresses.specs.Allocator.{space_of, IsSpaceTree}

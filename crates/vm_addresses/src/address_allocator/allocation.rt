@@ -3,13 +3,14 @@ ghost use Rattle.std.specs.Prelude.{◌≡◌, ◌≢◌, ℕ, ◌<◌, ◌≤�
 ghost use Rattle.vm_ranges.specs.Cases.{IsTestOf};
 ghost use Rattle.vm_ranges.specs.Request.{Request, IsRequest};
 ghost use Rattle.vm_ranges.specs.declared.constraint.AllocPolicy.TheVariants.{ExactMatch};
-ghost use Rattle.vm_tree.specs.Allocation.{IsSearch};
-ghost use Rattle.vm_tree.specs.Roots.{IsBlockTree};
-ghost use Rattle.vm_tree.specs.Shape.{blocks, height_of};
+ghost use Rattle.vm_space.specs.Allocation.{IsSearch};
+ghost use Rattle.vm_space.specs.Spares.{HasSpare};
+ghost use Rattle.vm_space.specs.Trees.{IsBlockTree};
+ghost use Rattle.vm_space.specs.Shape.{blocks, height_of};
 ghost use Rattle.vm_ranges.specs.Address.{IsAddressState};
 ghost use Rattle.vm_ranges.specs.Answer.{SPLIT_LIMIT_MIN_HELD, Grants, Allocates, FillsGap};
 ghost use Rattle.vm_addresses.specs.Counts.GapSearch.{SearchesGaps};
-ghost use Rattle.vm_addresses.specs.Counts.Steps.{EntersToAllocate, IsAllocationCount};
+ghost use Rattle.vm_addresses.specs.Counts.Steps.{IsAllocationCount};
 ghost use Rattle.vm_addresses.specs.Tree.Allocation.{with_error, IsSearchOf, IsAllocation};
 ghost use Rattle.vm_leaf.specs.SpaceBlocks.{IsTiling, held_of};
 ghost use Rattle.vm_addresses.specs.Allocator.{state_of};
@@ -17,7 +18,7 @@ ghost use Rattle.vm_addresses.specs.Allocator.{state_of};
 use super::AddressAllocator;
 use std::alloc::Global;
 use vm_ranges::{AllocPolicy, Constraint, Error, NodeState, RangeInclusive, Result, SPLIT_LIMIT};
-use vm_tree::{End, Refusal, Search, Spare, Steps, Taken, Tree};
+use vm_space::{End, Refusal, Search, Space, Spare, Taken};
 
 impl AddressAllocator {
     /// Allocates like [`allocate_constraint`](Self::allocate_constraint), and also returns the number
@@ -45,7 +46,6 @@ impl AddressAllocator {
 
         // A request that fills its gap needs no memory, so it succeeds.
         ensures filling { (start : ℕ) → FillsGap (state_of self.old) request start → IsOk result.0 }
-        ensures count { EntersToAllocate self.old request result.1 }
         ensures steps { IsAllocationCount (height_of self.old) (state_of self.old) request result.0 result.1 }
         ensures search { SearchesGaps (height_of self.old) (state_of self.old) request result.0 result.1 }
         ensures state { IsAddressState (state_of self.new) }
@@ -68,49 +68,47 @@ impl AddressAllocator {
         ensures valid { IsRequest request }
         ensures grants { (counted : ℕ) → IsTestOf can_split (counted < SPLIT_LIMIT_MIN_HELD)
             → Grants counted (state_of self.old) request result.0 (state_of self.new) }
-        ensures memory { (t : ℕ) → request.policy ≡ ExactMatch t → spare.old ≢ None → result.0 ≢ Err Error.OutOfMemory }
+        ensures memory { (t : ℕ) → request.policy ≡ ExactMatch t → HasSpare (length (state_of self.old).held) spare.old → result.0 ≢ Err Error.OutOfMemory }
         ensures unchanged { OnErr result.0 (self.new ≡ self.old) }
-        ensures count { EntersToAllocate self.old request result.1
-            × IsAllocationCount (height_of self.old) (state_of self.old) request result.0 result.1 }
+        ensures steps { IsAllocationCount (height_of self.old) (state_of self.old) request result.0 result.1 }
         ensures search { SearchesGaps (height_of self.old) (state_of self.old) request result.0 result.1 }
         ensures state { IsAddressState (state_of self.new) }
     {
-        let mut count = Steps::new();
+        let mut count = 0;
         let (tree, space) = (&mut self.tree, &self.space);
         let taken = match allocate_in(tree, space, &request, can_split, spare, alloc, &mut count) {
             Ok(taken) => taken,
-            Err(error) => return (Err(error), count.entered()),
+            Err(error) => return (Err(error), count),
         };
         self.held_count += 1;
         self.gap_count += u64::from(taken.added);
         self.gap_count -= 1;
         self.free_len -= request.size();
-        (Ok(taken.range), count.entered())
+        (Ok(taken.range), count)
     }
 }
 
 /// Allocates the range of a request in the tree of a space.
 #[inline(always)]
-#[tactic(auto, using(crate::proofs::Placing::Requests::allocating))]
 fn allocate_in(
-    tree: &mut Tree,
+    tree: &mut Space,
     space: &RangeInclusive,
     constraint: &Constraint,
     can_split: bool,
     spare: &mut Option<Spare>,
     alloc: Global,
-    count: &mut Steps,
+    count: &mut u64,
 ) -> Result<Taken>
     requires tiling { IsTiling space.now (blocks tree.old) }
     requires few { can_split ≡ true → length (held_of (blocks tree.old)) ≤ SPLIT_LIMIT_MIN_HELD }
     requires count { count.old ≡ 0 }
     ensures valid { IsRequest constraint.now }
     ensures answer { IsAllocation constraint.now space.now can_split tree.old tree.new result count.new }
-    ensures memory { (t : ℕ) → constraint.now.policy ≡ ExactMatch t → spare.old ≢ None
+    ensures memory { (t : ℕ) → constraint.now.policy ≡ ExactMatch t → HasSpare (length (held_of (blocks tree.old))) spare.old
         → result ≢ Err Error.OutOfMemory }
 {
-    // Proof: `height` gives the bounds of the tree.
-    let _height = tree.height();
+    // Proof: the tree is valid.
+    tree.facts();
     let search = search_of(constraint, space, can_split);
     let end = match constraint.policy() {
         AllocPolicy::FirstMatch => End::First,
@@ -132,20 +130,20 @@ fn allocate_in(
 #[inline(always)]
 #[tactic(auto, using(crate::proofs::Placing::Requests::allocating_exact))]
 fn allocate_exact(
-    tree: &mut Tree,
+    tree: &mut Space,
     space: &RangeInclusive,
     start: u64,
     search: &Search,
     spare: &mut Option<Spare>,
     alloc: Global,
-    count: &mut Steps,
+    count: &mut u64,
 ) -> Result<Taken>
     requires tiling { IsTiling space.now (blocks tree.old) }
     requires few { search.now.can_split ≡ true → length (held_of (blocks tree.old)) ≤ SPLIT_LIMIT_MIN_HELD }
     requires low { IsBlockTree tree.old }
     requires search { IsSearch search.now }
     requires count { count.old ≡ 0 }
-    ensures memory { spare.old ≢ None → result ≢ Err Error.OutOfMemory }
+    ensures memory { HasSpare (length (held_of (blocks tree.old))) spare.old → result ≢ Err Error.OutOfMemory }
     ensures answer { (request : Request) → IsRequest request → request.policy ≡ ExactMatch start
         → IsSearchOf request space.now search.now
         → IsAllocation request space.now search.now.can_split tree.old tree.new result count.new }

@@ -9,7 +9,7 @@ ghost use Rattle.vm_leaf.specs.SpaceBlocks.{blocks_of};
 use super::AddressAllocator;
 use std::marker::Model;
 use vm_ranges::{NodeState, RangeInclusive};
-use vm_tree::Walk;
+use vm_space::Walk;
 
 /// An iterator over the blocks of a space with their states, from the lowest to the highest, or backwards. It
 /// has an exact length, and does not allocate.

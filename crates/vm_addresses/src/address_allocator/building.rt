@@ -4,7 +4,7 @@
 ghost use Rattle.std.specs.Prelude.{◌≡◌, ◌+◌, ◌<◌, ◌≤◌, Some, None, Ok, IfOk, IfErr, MatchResult};
 ghost use Rattle.vm_ranges.specs.ListErrors.{by_error};
 ghost use Rattle.vm_ranges.specs.Range.{IsRange};
-ghost use Rattle.vm_tree.specs.Building.{IsLowestTree};
+ghost use Rattle.vm_space.specs.Building.{IsLowestTree};
 ghost use Rattle.vm_leaf.specs.TreeHeights.{TOO_MANY_BLOCKS};
 ghost use Rattle.vm_addresses.specs.Checks.HeldKeys.{CanBeHeld};
 ghost use Rattle.vm_ranges.specs.Address.{IsAddressState, AreInOrder};
@@ -14,7 +14,7 @@ ghost use Rattle.vm_addresses.specs.Allocator.{state_of, made_state};
 use super::{AddressAllocator, space_from};
 use std::alloc::{AllocError, Global};
 use vm_ranges::{Error, ListError, RangeInclusive, Result};
-use vm_tree::Tree;
+use vm_space::Space;
 
 /// A tree of this many blocks or more is too high.
 const TOO_MANY_BLOCKS: u64 = 1 << 49;
@@ -113,7 +113,7 @@ fn build(
     // Proof: this shows that the space is a range.
     let _end = space.end();
     Ok(AddressAllocator {
-        tree: Tree::with_held(alloc, count, space, held)?,
+        tree: Space::with_held(alloc, count, space, held)?,
         space,
         held_count: held.len() as u64,
         gap_count: count - held.len() as u64,

@@ -12,7 +12,7 @@ ghost use Rattle.vm_addresses.specs.Comparison.{blocks_cmp, layout_cmp, state_cm
 
 use super::AddressAllocator;
 use std::cmp::Ordering;
-use vm_tree::Walk;
+use vm_space::Walk;
 
 impl PartialEq for AddressAllocator {
     ghost eq = { eq_by_cmp (on state_of state_cmp) };

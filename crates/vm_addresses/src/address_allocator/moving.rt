@@ -15,6 +15,7 @@ ghost use Rattle.vm_ranges.specs.Answer.{SPLIT_LIMIT_MIN_HELD, Grants};
 ghost use Rattle.vm_addresses.specs.Allocator.{state_of};
 ghost use Rattle.vm_ranges.specs.Windows.{part_in};
 ghost use Rattle.vm_leaf.specs.Block.{free_block};
+ghost use Rattle.vm_space.specs.Spares.{HasSpare};
 ghost use Rattle.vm_addresses.specs.Moves.{request_to, replacing, MovesRange, CanReplace, IsBegun, BeginsMove};
 ghost use Rattle.vm_addresses.specs.Checks.Moving.{
   IsLeftGap,
@@ -30,7 +31,7 @@ use super::AddressAllocator;
 use std::alloc::Global;
 use vm_leaf::{highest_fit, lowest_fit};
 use vm_ranges::{AllocPolicy, Constraint, Error, RangeInclusive, Result, SPLIT_LIMIT};
-use vm_tree::Spare;
+use vm_space::Spare;
 
 /// A move that was begun. Nothing that is left to do can fail.
 #[derive(Debug, Drop)]
@@ -279,7 +280,7 @@ impl AddressAllocator {
             return Err(Error::Overflow);
         }
         let spare = if splits && range != *key {
-            Some(Spare::new(alloc, range)?)
+            Some(Spare::new(alloc, self.held_count, range)?)
         } else {
             None
         };
@@ -312,7 +313,7 @@ impl AddressAllocator {
         spare: &mut Option<Spare>,
     )
         requires held { Contains (state_of self.old).held key.now }
-        requires inside { CanReplace (state_of self.old) key.now range (spare.old ≢ None) }
+        requires inside { CanReplace (state_of self.old) key.now range (HasSpare (length (state_of self.old).held) spare.old) }
         ensures moved { state_of self.new ≡ replacing key.now range (state_of self.old) }
     {
         // An allocated range is always freed.

@@ -8,7 +8,7 @@ ghost use Rattle.vm_ranges.specs.Address.{IsAddressState, IsClear, SplitsGap};
 ghost use Rattle.vm_leaf.specs.Fit.{HasNoFit};
 ghost use Rattle.vm_leaf.specs.Windows.{cut_to};
 ghost use Rattle.vm_ranges.specs.Windows.{window_in};
-ghost use Rattle.vm_tree.specs.Shape.{blocks};
+ghost use Rattle.vm_space.specs.Shape.{blocks};
 ghost use Rattle.vm_addresses.specs.Allocator.{IsSpaceTree, state_of};
 ghost use Rattle.vm_addresses.specs.Peeks.{Peeks};
 ghost use Rattle.vm_addresses.specs.Checks.Peeking.{FindsChosen, FindsFirst, FindsLast, IsLowestIn, IsHighestIn, Settles};

@@ -6,7 +6,7 @@ ghost use Rattle.vm_addresses.specs.Queries.{ranges_with};
 
 use std::marker::Model;
 use vm_ranges::{NodeState, RangeInclusive};
-use vm_tree::Walk;
+use vm_space::Walk;
 
 /// An iterator over the allocated ranges in a window, or over the gaps there, from the lowest to the
 /// highest, or backwards. It does not allocate.

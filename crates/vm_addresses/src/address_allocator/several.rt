@@ -2,7 +2,7 @@
 ghost use Rattle.std.specs.Prelude.{◌≡◌, ℕ, ◌+◌, ◌*◌, List, length, IfErr, MatchResult};
 ghost use Rattle.vm_ranges.specs.Request.{Request};
 ghost use Rattle.vm_ranges.specs.Address.{AddressState, IsAddressState};
-ghost use Rattle.vm_tree.specs.Shape.{Shape};
+ghost use Rattle.vm_space.specs.Shape.{Shape};
 ghost use Rattle.vm_addresses.specs.Allocator.{state_of};
 ghost use Rattle.vm_addresses.specs.Several.{FailsAsNamed, AllocatesEach, FailsAll};
 

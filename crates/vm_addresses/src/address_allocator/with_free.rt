@@ -4,7 +4,7 @@ ghost use Rattle.std.specs.List.{Contains};
 ghost use Rattle.vm_ranges.specs.ListErrors.{by_error};
 ghost use Rattle.vm_ranges.specs.Range.{Range, IsIn};
 ghost use Rattle.vm_ranges.specs.Address.{IsAddressState, IsClear};
-ghost use Rattle.vm_tree.specs.Building.{IsLowestTree};
+ghost use Rattle.vm_space.specs.Building.{IsLowestTree};
 ghost use Rattle.vm_addresses.specs.Allocator.{state_of, made_state};
 ghost use Rattle.vm_addresses.specs.Holes.{MakesWithFree, wrong_index, holes_after};
 ghost use Rattle.vm_addresses.specs.Checks.FreeChecks.{ChecksFree};

@@ -1,8 +1,8 @@
 //! The saved value of an address allocator.
 ghost use Rattle.std.specs.Prelude.{◌≡◌, IfOk, option_map};
 ghost use Rattle.serde_json.specs.View.{view};
-ghost use Rattle.vm_tree.specs.Shape.{blocks};
-ghost use Rattle.vm_tree.specs.Building.{IsLowestTree};
+ghost use Rattle.vm_space.specs.Shape.{blocks};
+ghost use Rattle.vm_space.specs.Building.{IsLowestTree};
 ghost use Rattle.vm_ranges.specs.Address.{IsAddressState};
 ghost use Rattle.vm_ranges.specs.Saving.{Saves, Reads};
 ghost use Rattle.vm_saved_trees.specs.KeyValues.{EncodesAs};

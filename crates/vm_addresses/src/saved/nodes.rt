@@ -2,8 +2,8 @@
 ghost use Rattle.std.specs.Prelude.{◌≡◌, IfOk};
 ghost use Rattle.vm_ranges.specs.Address.{IsAddressState};
 ghost use Rattle.vm_ranges.specs.declared.saved.Condition.TheVariants.{Inside, Tree};
-ghost use Rattle.vm_tree.specs.Building.{IsLowestTree};
-ghost use Rattle.vm_tree.specs.Shape.{blocks};
+ghost use Rattle.vm_space.specs.Building.{IsLowestTree};
+ghost use Rattle.vm_space.specs.Shape.{blocks};
 ghost use Rattle.vm_saved_trees.specs.NodesRead.{MakesOfNodes, condition_of};
 ghost use Rattle.vm_saved_trees.specs.SavedTrees.{HasHeldKeys, HasTreeOf, HasHeldAs};
 ghost use Rattle.vm_addresses.specs.Allocator.{state_of, made_state};

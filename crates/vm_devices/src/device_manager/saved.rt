@@ -2,8 +2,8 @@
 ghost use Rattle.std.specs.Prelude.{◌≡◌, IfOk, option_map};
 ghost use Rattle.serde_json.specs.View.{view, items_view};
 ghost use Rattle.vm_ranges.specs.Saving.{Saves};
-ghost use Rattle.vm_tree.specs.Building.{IsLowestTree};
-ghost use Rattle.vm_tree.specs.Shape.{blocks};
+ghost use Rattle.vm_space.specs.Building.{IsLowestTree};
+ghost use Rattle.vm_space.specs.Shape.{blocks};
 ghost use Rattle.vm_devices.specs.Devices.{IsDeviceState};
 ghost use Rattle.vm_devices.specs.Manager.{device_state, made_manager};
 ghost use Rattle.vm_devices.specs.Saved.{EncodesManager, ReadsInParts};

@@ -6,10 +6,10 @@ use Rattle.vm_ranges.specs.Alignment.{IsLowestMultiple}
 use Rattle.vm_ranges.specs.Address.{IsPlace}
 use Rattle.vm_leaf.specs.SpaceBlocks.{blocks_between, blocks_of}
 use Rattle.vm_addresses.specs.Queries.{free_of, gaps_of, longest_of, count_of}
-use Rattle.vm_tree.specs.NodeCounts.{multiple_from}
+use Rattle.vm_space.specs.NodeCounts.{multiple_from}
 use Rattle.vm_laws.specs.QueryLaws.{LongGapFits, ClearAreFew}
 use Rattle.vm_addresses.proofs.Results.HeldAndGaps.{longest_fits}
-use Rattle.vm_tree.proofs.SearchedBlocks.{lowest_from}
+use Rattle.vm_space.proofs.SearchedBlocks.{lowest_from}
 use Rattle.vm_ranges.specs.declared.state.NodeState.TheVariants.{Free, Allocated}
 use Rattle.vm_leaf.specs.declared.block.Block.{Block}
 

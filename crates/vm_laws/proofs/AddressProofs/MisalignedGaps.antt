@@ -13,12 +13,12 @@ use Rattle.vm_leaf.specs.SpaceBlocks.{blocks_between, gap_before, blocks_of}
 use Rattle.vm_leaf.specs.Fit.{HasNoFit}
 use Rattle.vm_ranges.specs.Address.{AddressState}
 use Rattle.vm_leaf.specs.Windows.{cut_to}
-use Rattle.vm_tree.specs.GapSearch.{is_misaligned, on_part}
+use Rattle.vm_space.specs.NodeCounts.{is_misaligned, on_part}
 use Rattle.vm_addresses.specs.Counts.GapSearch.{passing, misaligned_gaps}
 use Rattle.vm_laws.specs.AddressLaws.{MisalignedIsExact, NoneIsMisalignedAtOne}
-use Rattle.vm_tree.specs.NodeCounts.{has_fit}
-use Rattle.vm_tree.proofs.GapBounds.{among_append}
-use Rattle.vm_tree.proofs.SearchedBlocks.{fit_found, no_fit_missed}
+use Rattle.vm_space.specs.NodeCounts.{has_fit}
+use Rattle.vm_space.proofs.Weights.{among_append}
+use Rattle.vm_space.proofs.SearchedBlocks.{fit_found, no_fit_missed}
 
 -- The number of misaligned gaps in a list of blocks.
 abbrev pub misaligned_among : ℕ → ℕ → List Block → ℕ

@@ -3,7 +3,7 @@ use Rattle.std.proofs.Common.{List, ap, sym, ◌∙◌, subst}
 use Rattle.serde_json.specs.Data.{Data}
 use Rattle.serde_json.specs.View.{view}
 use Rattle.vm_ranges.specs.Address.{AddressState}
-use Rattle.vm_tree.specs.Shape.{blocks}
+use Rattle.vm_space.specs.Shape.{blocks}
 use Rattle.vm_addresses.specs.Allocator.{space_of}
 use Rattle.vm_saved_trees.proofs.SavedNodes.Roots.{state_with}
 use Rattle.vm_addresses.proofs.Trees.WrittenTrees.{written_is_read}

@@ -2,7 +2,7 @@
 use Rattle.std.proofs.Common.{◌≡◌, ◌∙◌, List, Option, Some, None, sym, ap, subst, arith}
 use Rattle.vm_leaf.specs.SpaceBlocks.{blocks_of}
 use Rattle.vm_leaf.specs.declared.block.Block.{Block}
-use Rattle.vm_tree.specs.Shape.{blocks}
+use Rattle.vm_space.specs.Shape.{blocks}
 use Rattle.vm_saved_trees.specs.SavedTrees.{Saved, IsReadable}
 use Rattle.vm_saved_trees.specs.WrittenTrees.{IsWritten}
 use Rattle.vm_saved_trees.specs.declared.span.Span.{Span}

@@ -1,8 +1,8 @@
 -- An invalid request fills no gap, and a valid one has the arguments as its parts. The prover does not rewrite along this equation.
-use Rattle.vm_tree.specs.Shape.{height_of}
+use Rattle.vm_space.specs.Shape.{height_of}
 use Rattle.vm_addresses.specs.Allocator.{state_of}
 use Rattle.vm_addresses.specs.Counts.GapSearch.{SearchesGaps}
-use Rattle.vm_addresses.specs.Counts.Steps.{EntersToAllocate, IsAllocationCount}
+use Rattle.vm_addresses.specs.Counts.Steps.{IsAllocationCount}
 use Rattle.vm_addresses.proofs.Results.Filling.{allocates_filling, no_constraint_fault}
 use Rattle.vm_addresses.proofs.Results.Requests.{allocates_made, for_request}
 use Rattle.vm_addresses.proofs.address_allocator.AddressAllocator.allocate_counted.Goals as goal
@@ -15,10 +15,6 @@ returns-in-Ok-clause-answer c = allocates_made _ _ _ _ _ c.in-Ok.ensures c.alloc
 
 pub returns-in-Ok-clause-filling : goal.returns-in-Ok-clause-filling
 returns-in-Ok-clause-filling c = λ s f. allocates_filling _ _ _ s _ (returns-in-Ok-clause-answer c) f
-
-pub returns-in-Ok-clause-count : goal.returns-in-Ok-clause-count
-returns-in-Ok-clause-count c = for_request _ _ (λ v. EntersToAllocate c.args.self.now v c.allocate_constraint_counted.result.1) c.in-Ok.ensures
-    c.allocate_constraint_counted.ensures.count
 
 pub returns-in-Ok-clause-steps : goal.returns-in-Ok-clause-steps
 returns-in-Ok-clause-steps c =

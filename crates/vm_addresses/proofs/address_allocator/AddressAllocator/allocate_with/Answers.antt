@@ -1,6 +1,6 @@
 -- The counts of ranges, gaps and addresses stay true. The prover does not count blocks, and lemmas on both trees do.
 use Rattle.std.proofs.Common.{◌≡◌, ◌≤◌, true, length, Bool, Ok, Err, arith}
-use Rattle.vm_tree.specs.Shape.{Shape, blocks}
+use Rattle.vm_space.specs.Shape.{Shape, blocks}
 use Rattle.vm_addresses.specs.Allocator.{state_of}
 use Rattle.vm_ranges.specs.Answer.{SPLIT_LIMIT_MIN_HELD}
 use Rattle.vm_leaf.specs.SpaceBlocks.{held_of}
@@ -53,18 +53,18 @@ pub allocate_in-requires-clause-few : goal.allocate_in-requires-clause-few
 allocate_in-requires-clause-few c = rw c.self.view_is c.requires.few
 
 -- ---- The result
-refused : (c : goal.After-entered) →
-    IsAnswered c.args.self.now c.allocate_in.new.tree c.args.can_split c.args.request (Err c.in-Err.error) c.entered.result
-refused c = rw (← c.self.view_is, c.entered.ensures)
+refused : (c : goal.In-Err) →
+    IsAnswered c.args.self.now c.allocate_in.new.tree c.args.can_split c.args.request (Err c.in-Err.error) c.allocate_in.new.count
+refused c = rw (← c.self.view_is)
     (refused_answer c.self.inside.tree c.allocate_in.new.tree c.self.inside.space c.self.inside.held_count c.self.inside.gap_count
     c.self.inside.free_len c.args.can_split c.args.request c.allocate_in.new.count c.self.invariant c.in-Err.error c.in-Err.ensures.answer
     c.in-Err.ensures.valid)
 
-granted : (c : goal.After-entered-2) →
-    IsAnswered c.args.self.now c.allocate_in.new.tree c.args.can_split c.args.request (Ok c.in-Ok.taken.range) c.entered-2.result
+granted : (c : goal.After-self-4-1) →
+    IsAnswered c.args.self.now c.allocate_in.new.tree c.args.can_split c.args.request (Ok c.in-Ok.taken.range) c.allocate_in.new.count
 granted c =
     let valid = c.in-Ok.ensures.valid in
-    rw (← c.self.view_is, c.entered-2.ensures)
+    rw (← c.self.view_is)
     (granted_answer c.self.inside.tree c.allocate_in.new.tree c.self.inside.space c.self.inside.held_count c.self.inside.gap_count
     c.self.inside.free_len c.args.can_split c.args.request c.allocate_in.new.count c.self.invariant c.in-Ok.taken
     (few c.args.can_split c.self.inside.tree c.args.self.now c.self.view_is c.requires.few) valid.some c.in-Ok.ensures.answer valid)
@@ -83,8 +83,8 @@ returns-clause-state c = granted_state c.self.inside.tree c.allocate_in.new.tree
 pub returns-in-Err-clause-grants : goal.returns-in-Err-clause-grants
 returns-in-Err-clause-grants c = (refused c).grants
 
-pub returns-in-Err-clause-count : goal.returns-in-Err-clause-count
-returns-in-Err-clause-count c = ((refused c).enters, (refused c).steps)
+pub returns-in-Err-clause-steps : goal.returns-in-Err-clause-steps
+returns-in-Err-clause-steps c = (refused c).steps
 
 pub returns-in-Err-clause-search : goal.returns-in-Err-clause-search
 returns-in-Err-clause-search c = (refused c).search
@@ -92,8 +92,8 @@ returns-in-Err-clause-search c = (refused c).search
 pub returns-clause-grants : goal.returns-clause-grants
 returns-clause-grants c = (granted c).grants
 
-pub returns-clause-count : goal.returns-clause-count
-returns-clause-count c = ((granted c).enters, (granted c).steps)
+pub returns-clause-steps : goal.returns-clause-steps
+returns-clause-steps c = (granted c).steps
 
 pub returns-clause-search : goal.returns-clause-search
 returns-clause-search c = (granted c).search

@@ -3,7 +3,7 @@ use Rattle.std.proofs.Common.{◌≡◌, ◌-◌, length, sym, subst, Ok, Err}
 use Rattle.vm_ranges.specs.Range.{Range}
 use Rattle.vm_ranges.specs.declared.error.Error.{Error}
 use Rattle.vm_ranges.specs.declared.error.Error.TheVariants.{ResourceNotAvailable}
-use Rattle.vm_tree.specs.Shape.{Shape}
+use Rattle.vm_space.specs.Shape.{Shape}
 use Rattle.vm_addresses.specs.Allocator.{state_of}
 use Rattle.vm_ranges.specs.Answer.{Grants}
 use Rattle.vm_addresses.specs.Moves.{BeginsMove}

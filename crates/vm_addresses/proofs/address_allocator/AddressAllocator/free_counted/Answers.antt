@@ -1,7 +1,7 @@
 -- A freed range joins the gaps beside it, and the counts stay true. The prover does not count blocks, and lemmas on both trees do.
 use Rattle.std.proofs.Common.{arith, ap}
 use Rattle.vm_ranges.specs.Range.{Range}
-use Rattle.vm_tree.specs.Shape.{blocks}
+use Rattle.vm_space.specs.Shape.{blocks}
 use Rattle.vm_addresses.proofs.Trees.CountedTrees.{some_held, joined_fits, freed_fits, freed_counted, freed_state, gaps_fit}
 use Rattle.vm_addresses.proofs.Trees.Ends.{ends}
 use Rattle.vm_addresses.proofs.Trees.Freeing.{frees_one, frees_held}
@@ -11,29 +11,18 @@ use Rattle.vm_addresses.proofs.address_allocator.AddressAllocator.free_counted.G
 pub returns-then-start-clause-state : goal.returns-then-start-clause-state
 returns-then-start-clause-state c = rw (← c.self.view_is) (state_of_tree c.self.inside.tree c.self.invariant.tree)
 
-pub free-requires-clause-start : goal.free-requires-clause-start
-free-requires-clause-start c =
+pub free-requires : goal.free-requires
+free-requires c =
     let t = c.self.invariant.tree in
-    let e = ends _ (blocks c.self.inside.tree) t.tiling.tiles t.space.0 in (
-      omega (
-        arith,
-        e.start,
-        c.if-start.false,
-        c.start-2.ensures.value,
-        c.start.ensures.value,
-        ap (λ (r : Range). r.start)
-            c.self.invariant.is_space,
-      ),
-      omega (
-        arith,
-        e.end,
-        c.if-end-start.false,
-        c.end.ensures.value,
-        c.start-else-start.ensures.value,
-        ap (λ (r : Range). r.end)
-            c.self.invariant.is_space,
-      ),
-    )
+    let e = ends _ (blocks c.self.inside.tree) t.tiling.tiles t.space.0 in
+    let s = ap (λ (r : Range). r.start) c.self.invariant.is_space in
+    let f = ap (λ (r : Range). r.end) c.self.invariant.is_space in
+    record {
+      start = record {
+        from = omega (arith, e.start, c.if-start.false, c.start-2.ensures.value, c.start.ensures.value, s);
+        upto = omega (arith, e.end, c.if-end-start.false, c.end.ensures.value, c.start-else-start.ensures.value, f);
+      };
+    }
 
 pub returns-in_default-clause-state : goal.returns-in_default-clause-state
 returns-in_default-clause-state c = rw c.in_default.ensures.freed.0 (state_of_tree c.self.inside.tree c.self.invariant.tree)

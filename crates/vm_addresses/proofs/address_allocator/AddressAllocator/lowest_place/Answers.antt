@@ -3,7 +3,7 @@ use Rattle.std.proofs.Common.{◌∙◌, ap, subst}
 use Rattle.vm_ranges.specs.Range.{Range}
 use Rattle.vm_ranges.specs.Request.{Request}
 use Rattle.vm_ranges.specs.Windows.{window_in}
-use Rattle.vm_tree.specs.Shape.{blocks}
+use Rattle.vm_space.specs.Shape.{blocks}
 use Rattle.vm_addresses.specs.Checks.Peeking.{FindsFirst}
 use Rattle.vm_addresses.proofs.Peeking.Chosen.{first_chosen}
 use Rattle.vm_addresses.proofs.address_allocator.AddressAllocator.lowest_place.Goals as goal

@@ -8,7 +8,9 @@ use Rattle.vm_ranges.specs.Address.{AddressState, releasing}
 use Rattle.vm_addresses.specs.Allocator.{state_of}
 use Rattle.vm_ranges.specs.Answer.{SPLIT_LIMIT_MIN_HELD, Grants, Frees}
 use Rattle.vm_addresses.specs.Moves.{request_to}
-use Rattle.vm_addresses.proofs.Moving.Finishing.{enters_gap}
+use Rattle.vm_ranges.proofs.PlainWords.{held_contains}
+use Rattle.vm_addresses.proofs.Moving.Inside.{length_without}
+use Rattle.vm_addresses.proofs.Moving.Finishing.{enters_gap, fewer_spare}
 use Rattle.vm_addresses.proofs.Results.Moves.{start_is_valid, made_to}
 use Rattle.vm_addresses.proofs.address_allocator.AddressAllocator.replace.Goals as goal
 
@@ -36,6 +38,13 @@ granted : (c : goal.After-allocate_with) →
 granted c = c.allocate_with.ensures.grants (length (state_of c.free.new.self).held)
     (limit_tested c.self.inside.held_count (length (state_of c.free.new.self).held) (rw (← c.self.view_is) c.self.invariant.held_count))
 
+-- Fewer ranges are held then.
+fewer : (c : goal.After-allocate_with) → length (state_of c.free.new.self).held ≤ length (state_of c.args.self.now).held
+fewer c =
+    let old = state_of c.args.self.now in
+    omega (arith, ap (λ (v : AddressState). length v.held) (freed c),
+    length_without c.args.key.now old.held (held_contains old.held c.args.key.now c.requires.held))
+
 pub unreachable-requires : goal.unreachable-requires
 unreachable-requires c =
     let some = c.len.ensures in
@@ -50,6 +59,6 @@ returns c = record {
       let grants : Grants (length (releasing c.args.key.now old).held) (releasing c.args.key.now old) c.in-Ok.request answer new = subst
       (λ (v : AddressState). Grants (length v.held) v c.in-Ok.request answer new) (freed c) (granted c) in
       enters_gap old new c.args.key.now c.args.range _ answer c.requires.held c.requires.inside
-      (c.allocate_with.ensures.memory c.args.range.start (ap (λ (v : Request). v.policy) (made c)))
+      (λ m. c.allocate_with.ensures.memory c.args.range.start (ap (λ (v : Request). v.policy) (made c)) (fewer_spare _ _ c.args.spare.now (fewer c) m))
       (subst (λ (v : Request). Grants (length (releasing c.args.key.now old).held) (releasing c.args.key.now old) v answer new) (made c) grants);
 }

@@ -1,6 +1,6 @@
 -- The saved tree is written for the blocks of the allocator. The prover does not rewrite along the equal lists of blocks.
 use Rattle.std.proofs.Common.{◌≡◌, ◌∙◌}
-use Rattle.vm_tree.specs.Shape.{blocks}
+use Rattle.vm_space.specs.Shape.{blocks}
 use Rattle.vm_addresses.proofs.Trees.WrittenTrees.{value_written}
 use Rattle.vm_addresses.proofs.address_allocator.AddressAllocator.to_root_value.Goals as goal
 

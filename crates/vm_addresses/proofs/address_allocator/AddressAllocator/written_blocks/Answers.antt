@@ -1,6 +1,6 @@
 -- The starts in the list are those of the blocks. The prover does not rewrite along the equal lists and ends.
 use Rattle.std.proofs.Common.{◌≡◌, ◌∙◌, ap}
-use Rattle.vm_tree.specs.Shape.{blocks}
+use Rattle.vm_space.specs.Shape.{blocks}
 use Rattle.vm_leaf.specs.BlockStarts.{starts_of, blocks_from, AreRanges}
 use Rattle.vm_addresses.specs.Allocator.{state_of}
 use Rattle.vm_addresses.proofs.Trees.WrittenTrees.{starts_kept}

@@ -2,8 +2,8 @@
 use Rattle.std.proofs.Common.{◌≡◌, ◌<◌, arith, refl, ◌∙◌, ⊎_elim}
 use Rattle.vm_ranges.specs.Range.{span}
 use Rattle.vm_ranges.proofs.RangeCalls.{same_range}
-use Rattle.vm_tree.specs.Shape.{blocks}
-use Rattle.vm_addresses.proofs.Placing.Requests.{exact_at_max, exact_outside, exact_over, exact_allocation, start_in}
+use Rattle.vm_space.specs.Shape.{blocks}
+use Rattle.vm_addresses.proofs.Placing.Requests.{exact_at_max, exact_outside, exact_over, exact_allocation, start_in, with_spare}
 use Rattle.vm_addresses.proofs.address_allocator.allocation.allocate_exact.Goals as goal
 
 pub returns-then-start-eq18446744073709551615-clause-answer : goal.returns-then-start-eq18446744073709551615-clause-answer
@@ -53,8 +53,12 @@ returns-clause-answer c = λ request valid policy is.
     let h = c.allocate_exact.ensures in
     rw (c.with_error.ensures, range)
     (exact_allocation c.args.space.now c.args.tree.now c.allocate_exact.new.self c.requires.tiling.tiles request c.args.search.now
-    c.args.start valid is policy c.allocate_exact.result h.unchanged c.allocate_exact.new.count h.answer.0 (omega arith) (
+    c.args.start valid is policy c.allocate_exact.result h.unchanged c.allocate_exact.new.count h.answer (omega arith) (
       omega (arith, c.if-start-from.false, c.max-from.ensures, c.start.ensures.value),
       omega
           (arith, c.if-to-start.false, c.min-to.ensures, c.end.ensures.value),
-    ) (omega (arith, fits.0, some)) h.count h.path)
+    ) (omega (arith, fits.0, some)) c.requires.low (omega (arith, h.count, c.requires.count)) (λ o. omega (arith, h.path o, c.requires.count)))
+
+pub returns-clause-memory : goal.returns-clause-memory
+returns-clause-memory c = λ h.
+    rw c.with_error.ensures (with_spare c.args.tree.now c.args.spare.now _ c.allocate_exact.result c.allocate_exact.ensures.memory h)

@@ -1,7 +1,7 @@
 -- The range gets its value, or it is freed again. The prover does not replace the map by its parts in the facts on its state.
 use Rattle.std.proofs.Common.{◌≡◌, sym, ap, subst, Err, rules}
 use Rattle.vm_ranges.specs.declared.error.Error.TheVariants.{OutOfMemory}
-use Rattle.vm_tree.specs.Shape.{Shape}
+use Rattle.vm_space.specs.Shape.{Shape}
 use Rattle.vm_addresses.specs.Allocator.{state_of}
 use Rattle.vm_range_map.specs.RangeMaps.{MapState, IsMapState, map_of}
 use Rattle.vm_range_map.proofs.MapStates.{new_start, with_state}
