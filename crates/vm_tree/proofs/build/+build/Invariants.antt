@@ -1,4 +1,0 @@
-use Rattle.vm_tree.proofs.build.+build.Given as goal
-
-abbrev pub decreases-build : goal.decreases-build
-decreases-build l = l.leaves

@@ -1,7 +1,0 @@
-use Rattle.vm_tree.proofs.Meetings.{count_to_index}
-use Rattle.vm_tree.proofs.walk.count_up_to.Goals as goal
-
-pub returns : goal.returns
-returns c =
-    let f = c.index_of.ensures.found in
-    count_to_index c.args.leaf.now c.len-len.ensures.leaf c.args.address c.index_of.result c.index_of.ensures.within f.0 f.1
