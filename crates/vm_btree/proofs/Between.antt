@@ -279,9 +279,6 @@ module _ {X : Type 0} (en : X → Entry) where
       both [] f g = tt
       both (b ∷ bs) f g = (omega (arith, f.0 g.0, e), both bs f.1 g.1)
 
-  pub whole_none : (xs : List X) → xs ≡ [] → IsWhole en xs 1 0
-  whole_none xs e = subst (λ ys. IsWhole en ys 1 0) (sym e) (record { walk = done [] tt; is = refl })
-
   -- All leaves are left.
   pub whole_some : (top : ℕ) (xs : List X) (r : Rise en xs) (low high : X) (n m : Option ℕ) → IsFrom en 0 None xs low n → IsFrom en top None xs high m → m ≡ None
       → (lo hi : ℕ) → lo ≡ (en low).at → hi ≡ (en high).at → IsWhole en xs lo hi

@@ -86,18 +86,6 @@ module _ {X C : Type 0} (entry : X → Entry) (enough : X → Type 0) (tree : Bo
         all = all_right enough (tree x).leaves new (subst (AllOf enough) c r.all);
       }
 
-  -- The node over these children.
-  pub row_over : (least i m : ℕ) (es : List Entry) (os : List (Option (Box C Global))) (old now : List X) →
-      IsRow entry enough tree h i es os old now m → 0 < i → least ≤ h → IsOver entry enough least tree es os
-  row_over least i m es os old now r p l =
-      let f : front (map tree (held os)) ≡ h = front_is enough h (map tree (held os)) r.even (omega (arith, length_map tree (held os), r.count)) in
-      record {
-        dense = r.dense;
-        deep = omega arith;
-        even = full_front enough h (map tree (held os)) r.even;
-        entries = r.entries;
-      }
-
   pub row_built : (levels below n i : ℕ) (es : List Entry) (os : List (Option (Box C Global))) (old now : List X) →
       IsRow entry enough tree h i es os old now n → 0 < i → n ≤ below * i → h ≡ levels + 1 →
       IsBuilt enough levels below n old now (over (map tree (held os)))

@@ -41,39 +41,9 @@ module _ {X C : Type 0} (tree : Box C Global → Subtree X) where
         trees = rw add-one (ap (map tree) h ∙ at_end (held from) (held to) i x k (sym n) l (kid_at from i o k d l g) e a.trees);
       }
 
-  none_more : (xs : List (Subtree X)) (n : ℕ) → n ≡ length xs → take n xs ≡ xs
-  none_more [] zero e = refl
-  none_more [] (suc n) e = absurd (omega arith)
-  none_more (x ∷ xs) zero e = absurd (omega arith)
-  none_more (x ∷ xs) (suc n) e = ap (λ ys. x ∷ ys) (none_more xs n (omega arith))
-
   length-trees : (bs : List (Box C Global)) → length (map tree bs) ≡ length bs
   length-trees [] = refl
   length-trees (b ∷ bs) = omega (arith, length-trees bs)
-
-  pub copied_trees : (from to : List (Option (Box C Global))) (n : ℕ) → n ≡ length (held from) → AreCopies tree n from to →
-      map tree (held to) ≡ map tree (held from)
-  copied_trees from to n e a = a.trees ∙ none_more (map tree (held from)) n (omega (arith, length-trees (held from)))
-
-  pub trees_count : (entry : X → Entry) (enough : X → Type 0) (least : ℕ) (es : List Entry) (os : List (Option (Box C Global))) →
-      IsOver entry enough least tree es os → length es ≡ length (held os)
-  trees_count entry enough least es os o = ap length o.entries ∙ length-entries (map tree (held os)) ∙ length-trees (held os)
-    where
-      length-entries : (ss : List (Subtree X)) → length (map (entry_of entry) ss) ≡ length ss
-      length-entries [] = refl
-      length-entries (s ∷ ss) = omega (arith, length-entries ss)
-
-  pub copied_over : (entry : X → Entry) (enough : X → Type 0) (least : ℕ) (es fs : List Entry) (from to : List (Option (Box C Global))) (n : ℕ) →
-      IsOver entry enough least tree es from → fs ≡ es → n ≡ length (held from) → AreCopies tree n from to →
-      IsOver entry enough least tree fs to
-  copied_over entry enough least es fs from to n o e m a =
-      let t = sym (copied_trees from to n m a) in
-      record {
-        dense = a.dense;
-        deep = subst (λ ss. least ≤ front ss) t o.deep;
-        even = subst (λ ss. AreFull enough (front ss) ss) t o.even;
-        entries = e ∙ o.entries ∙ ap (map (entry_of entry)) t;
-      }
 
   -- The height of a child.
   full_height : (enough : X → Type 0) (h : ℕ) (bs : List (Box C Global)) (i : ℕ) (k : Box C Global) → AreFull enough h (map tree bs) → i < length bs

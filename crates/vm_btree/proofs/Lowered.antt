@@ -36,11 +36,6 @@ module _ {X : Type 0} (en : X → Entry) (P : X → Type 0) where
   first h [] b l e a = absurd (omega (arith, l))
   first h (c ∷ bs) b l e a = subst (λ (z : Box (Node X) Global). IsFull P h z.value) e a.0
 
-  pub lowered_root : (es : List Entry) (os : List (Option (Box (Node X) Global))) (b : Box (Node X) Global) → IsOver en P 2 node_tree es os
-      → length (held os) ≡ 1 → get_or (held os) 0 b ≡ b → 2 ≤ kids b.value
-  lowered_root es os b a l e =
-      let f : IsFull P (front (map node_tree (held os))) b.value = first (front (map node_tree (held os))) (held os) b l e a.even in omega (arith, f.fan (omega (arith, a.deep)))
-
 module _ {X : Type 0} where
   pub one_kid : (k : Kids X) (s : Subtree X) (n : ℕ) → over (kids_of k) ≡ s → n ≡ kids s → n ≤ 1 → 0 < kids s → length (kids_of k) ≡ 1
   one_kid k s n u e l m = omega (arith, ap kids u, e, l, m)
@@ -109,12 +104,6 @@ module _ {X : Type 0} (en : X → Entry) (P : X → Type 0) (J : X → X → Lis
     pub node_after : (s t r was now : Subtree X) (o : Shrunk) (done : Bool) → Shrank en P (JoinsIf S J) key refuses edits s t o → 2 ≤ kids s
         → IsLowered t r → was ≡ s → now ≡ r → done ≡ HasShrunk o → IsTreeCut en J key refuses edits was now done
     node_after s t r was now o done g k l a b d = rw (a, b, d) (node_cut s t r o g k l)
-
-    pub node_kept : (s t r was now : Subtree X) (o : Shrunk) (done : Bool) → Shrank en P (JoinsIf S J) key refuses edits s t o → IsLowered t r
-        → was ≡ s → now ≡ r → done ≡ HasShrunk o → ¬ S → done ≡ true → IsEdited en Any key edits was.leaves now.leaves
-    node_kept s t r was now o done g l a b d n e =
-        rw (a, b)
-        (subst (λ xs. IsEdited en Any key edits s.leaves xs) (sym l.leaves) (unjoined (JoinsIf S J) (λ x y zs q. absurd (n q.0)) s t o g (sym d ∙ e)))
 
     pub some_left : (s t : Subtree X) (o : Shrunk) → Shrank en P (JoinsIf S J) key refuses edits s t o → 2 ≤ kids s → 0 < kids t
     some_left s t shrunk.Refused g k = omega (arith, ap kids g.same, k)

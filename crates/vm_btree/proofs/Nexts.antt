@@ -38,9 +38,6 @@ module _ {X : Type 0} (en : X → Entry) (P : X → Type 0) (q : Seeking X) (es 
     here : fs ≡ map (entry_of en) ss
     here = under_entries en P fs j now ∙ ap (map (entry_of en)) same
 
-    pub kids_count : length fs ≡ length ss
-    kids_count = same_count en P q may.lawful fs ss even here may.runs
-
     module _ (i : ℕ) (n : IsNext end q.fits fs from to i) where
       pub next_within : i < length (kids_of j)
       next_within = omega (arith, p.within, n.before, ap length same)

@@ -220,20 +220,6 @@ module _ {X C : Type 0} (en : X → Entry) (P : X → Type 0) (at more : List X 
     high = t.high ∙ g.high ∙ ap (entry_of en) (sym t.upper);
   }
 
-  spares_of : (o : Outcome C) (r : Settled C) (es : List Entry) (bs : List (Box C Global)) (fs : List Entry) (cs : List (Box C Global)) → Halves-are es r
-      → IsSettled i es bs fs cs o r → {D : Type 0} (node : Box D Global → Subtree X) (n m : ℕ) (p : Outcome D) → IsFinished tree node n m r p
-      → (full more : ℕ) → n < 18446744073709551615 → HasSpares more n o → (16 ≤ length es → more < 18446744073709551615 → more ≡ full + 1) → HasSpares full m p
-  spares_of o r es bs fs cs q s node n m outcome.Refused t full more z h k = tt
-  spares_of o r es bs fs cs q s node n m outcome.Same t full more z h k = tt
-  spares_of o r es bs fs cs q s node n m (outcome.Changed e) t full more z h k = tt
-  spares_of o settled.Refused es bs fs cs q s node n m (outcome.Split e) t full more z h k = absurd t
-  spares_of o settled.Same es bs fs cs q s node n m (outcome.Split e) t full more z h k = absurd t
-  spares_of o (settled.Changed d) es bs fs cs q s node n m (outcome.Split e) t full more z h k = absurd t
-  spares_of outcome.Refused (settled.Split u) es bs fs cs q s node n m (outcome.Split e) t full more z h k = absurd s
-  spares_of outcome.Same (settled.Split u) es bs fs cs q s node n m (outcome.Split e) t full more z h k = absurd s
-  spares_of (outcome.Changed d) (settled.Split u) es bs fs cs q s node n m (outcome.Split e) t full more z h k = absurd s
-  spares_of (outcome.Split d) (settled.Split u) es bs fs cs q s node n m (outcome.Split e) t full more z h k = omega (arith, h, k q.1.1 (omega (arith, h, z)), t.used)
-
   module _ (es : List Entry) (n : es ≡ map (entry_of en) ss) (bs : List (Box C Global)) where
     one_done : (new : Subtree X) → IsOne P at edits (nth_tree ss i) new → (fs : List Entry) (cs : List (Box C Global)) → length cs ≤ 16
         → map tree cs ≡ set ss i new → fs ≡ map (entry_of en) (set ss i new)
@@ -318,6 +304,3 @@ module _ {X C : Type 0} (en : X → Entry) (P : X → Type 0) (at more : List X 
       module _ {D : Type 0} (node : Box D Global → Subtree X) (was now : ℕ) (p : Outcome D) (t : IsFinished tree node was now r p) where
         pub grew_done : Grew en P more refuses edits node (over ss) (over (map tree (held os))) p
         grew_done = grew_of node was now (map tree (held os)) r p t (done o r fs (held os) d.fits g s).grew
-
-        pub spares_done : (full more : ℕ) → was < 18446744073709551615 → HasSpares more was o → (16 ≤ length es → more < 18446744073709551615 → more ≡ full + 1) → HasSpares full now p
-        spares_done full more z h k = spares_of o r es bs fs (held os) halves_are s node was now p t full more z h k

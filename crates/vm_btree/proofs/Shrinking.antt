@@ -20,16 +20,6 @@ use Rattle.vm_btree.proofs.Widened.{Lifts, middle, over_stands, over_refused, ov
 use Rattle.vm_btree.proofs.Cuts.{meet_left, meet_right}
 use Rattle.vm_btree.proofs.Parts.{over_by}
 
-module _ {X : Type 0} where
-  all_any : (xs : List X) → AllOf Any xs
-  all_any [] = tt
-  all_any (x ∷ xs) = (tt, all_any xs)
-
-  any_full : (P : X → Type 0) (h : ℕ) (ss : List (Subtree X)) → AreFull P h ss → AreFull Any h ss
-  any_full P h [] a = tt
-  any_full P h (s ∷ ss) a =
-      (record { height = a.0.height; high = a.0.high; fan = a.0.fan; bound = a.0.bound; few = a.0.few; most = a.0.most; some = a.0.some; all = all_any s.leaves }, any_full P h ss a.1)
-
 module _ {X : Type 0} (J : X → X → List X → Type 0) where
   pre_regroup : (a old new : List X) → IsRegrouped J old new → IsRegrouped J (a ++ old) (a ++ new)
   pre_regroup a old new (inl e) = inl (ap (λ xs. a ++ xs) e)

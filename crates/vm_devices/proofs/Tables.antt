@@ -153,12 +153,6 @@ no_starts = record {
   at = λ start id. (λ h. grind (arith, h), λ h. grind (arith, map.get-empty {X = Range} nat_cmp id, h));
 }
 
-module _ {devices : map.FinMap nat_cmp Range} {starts : List DeviceStart} (a : AreIdsByStart devices starts) where
-  -- A start that no device has is not in the list.
-  no_start : (start : ℕ) → ((id : ℕ) → ¬ StartsAt devices id start) → entry_at start_of start starts ≡ None
-  no_start start none = absent (entry_at start_of start starts)
-      (λ s e. none s.id ((a.at start s.id).0 (ap (option_map (λ s. s.id)) e)))
-
   -- The range of a device is entered by its start. No other device has this start.
   module _ (s : DeviceStart) (r : Range) (is : s.start ≡ r.start) (only : IsOnlyStart devices s.id s.start) where
     -- A device that is new is found by its start.

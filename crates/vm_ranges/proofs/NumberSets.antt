@@ -33,10 +33,6 @@ same_members s t there back =
 pub inserted_here : (s : set.FinSet nat_cmp) (k : ℕ) → IsTrue (set.contains (set.insert s k) k)
 inserted_here s k = set.contains-insert nat_cmp_total s k k ∙ or_left _ _ (tied_here k)
 
--- A set contains its former members after an insertion.
-pub inserted_other : (s : set.FinSet nat_cmp) (k q : ℕ) → IsTrue (set.contains s q) → IsTrue (set.contains (set.insert s k) q)
-inserted_other s k q h = set.contains-insert nat_cmp_total s k q ∙ or_right _ _ h
-
 -- A set contains its other members after a removal.
 pub removed_other : (s : set.FinSet nat_cmp) (k q : ℕ) → (q ≡ k → ⊥) → IsTrue (set.contains s q) → IsTrue (set.contains (set.remove s k) q)
 removed_other s k q ne h =

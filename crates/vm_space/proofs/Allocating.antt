@@ -165,18 +165,6 @@ settles_right seek place l m (Err PastMax) h = h
 settles_right seek place l m (Err (OutOfMemory e)) h = (record { below = h.0.below; splits = h.0.splits }, h.1)
 settles_right seek place l m (Err CannotSplit) h = (record { below = h.0.below; splits = h.0.splits }, h.1)
 
--- The result does not name the change.
-pub settles_other : (seek : Search) (place : ListPlace) (new other : List Block) (taken more : Taken) → other ≡ new →
-    more.range ≡ taken.range → more.added ≡ taken.added
-    → IsTakenAt seek place new taken → IsTakenAt seek place other more
-settles_other seek place new other taken more e f g h = record {
-  range = f ∙ h.range;
-  below = h.below;
-  low = h.low;
-  blocks = e ∙ h.blocks;
-  added = ap (λ (x : ℕ). x + 1) g ∙ h.added;
-}
-
 same_key : (k : Range) (start end : ℕ) → k.start ≡ start → k.end ≡ end → k ≡ record { start = start; end = end }
 same_key k start end p q = rw (← p, ← q) refl
 
@@ -316,12 +304,6 @@ pub record IsAllocated (seek : Search) (old new : List Block) (taken : Taken) : 
 pub run_allocated : (seek : Search) (old new : List Block) (taken : Taken) → IsRun old → IsAllocated seek old new taken → IsRun new
 run_allocated seek old new taken run h = run_after old new h.place.lower h.place.upper h.place.key (span h.place.start seek.size) run h.cut
     h.inside h.taken_at.blocks
-
--- A run in which a range was allocated starts at the same address.
-pub start_allocated : (seek : Search) (old new : List Block) (taken : Taken) → IsRun old → IsAllocated seek old new taken →
-    start_of new ≡ start_of old
-start_allocated seek old new taken run h = start_after old new h.place.lower h.place.upper h.place.key (span h.place.start seek.size) run
-    h.cut h.inside h.taken_at.blocks
 
 -- An exact range that was allocated lies in a gap.
 pub exact_allocated : (seek : Search) (t : ℕ) (old new : List Block) (taken : Taken) → 0 < seek.size →

@@ -27,29 +27,6 @@ first_order bs h =
     let q = leaf_part bs (length bs - 1) h (omega (arith, h.some)) in
     (p.some, omega (arith, p.upto, q.last (omega (arith, h.some))), q.upto)
 
-pub extended_last : (z e : ℕ) (old new : List Block) → IsLeaf old → new ≡ upto_end e old → end_of old < z → z - end_of old ≤ 1
-    → (nth old (length old - 1)).state ≡ Free → ExtendsLast z e old new
-extended_last z e old new h q a b f = record {
-  lower = take (length old - 1) old;
-  gap = nth old (length old - 1);
-  before = cut_last old h.some;
-  free = f;
-  next = omega arith;
-  after = q
-      ∙ ap (λ (s : NodeState). take (length old - 1) old ++ record { key = record { start = (nth old (length old - 1)).key.start; end = e }; state = s } ∷ []) f;
-}
-
-pub extended_first : (z a : ℕ) (old new : List Block) → IsLeaf old → new ≡ from_start a old → z < start_of old → start_of old - z ≤ 1
-    → (nth old 0).state ≡ Free → ExtendsFirst z a old new
-extended_first z a old new h q l b f = record {
-  gap = nth old 0;
-  upper = drop 1 old;
-  before = cut_at old 0 h.some;
-  free = f;
-  next = omega arith;
-  after = q ∙ ap (λ (s : NodeState). record { key = record { start = a; end = (nth old 0).key.end }; state = s } ∷ drop 1 old) f;
-}
-
 -- ---- Blocks that are dropped
 pub dropped_one : (old mid : List Block) → 2 < length old → mid ≡ drop 1 old → (nth mid 0).state ≡ Allocated → DropsFirst old mid
 dropped_one [] mid l e s = absurd (omega (arith, l))

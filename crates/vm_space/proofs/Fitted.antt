@@ -20,16 +20,6 @@ use Rattle.vm_space.proofs.Exacts.{below_taken}
 use Rattle.vm_space.proofs.Searched.{closest_allocated, fit_middle}
 use Rattle.vm_space.proofs.Spaces.{blocks_cut, blocks_new, have_append, have_left, have_right}
 
-module _ (end : End) (seek : Search) (bs : List Block) (place : Place) (h : IsClosestLeafPlace end seek bs place) where
-  -- The place was allocated.
-  pub fit_allocated : (new : List Block) (taken : Taken) → new ≡ with_place bs place → RefusesPlace seek place None → taken.range ≡ place.range
-      → taken.added ≡ added_by place.rest → SettlesFit end seek bs new (Ok taken)
-  fit_allocated new taken e n r a = (in_list bs place, h.closest, settled seek bs place h.fits new taken e n r a)
-
-  -- The place was refused.
-  pub fit_refused : (refusal : Refusal) → RefusesPlace seek place (Some refusal) → SettlesFit end seek bs bs (Err refusal)
-  fit_refused refusal r = (in_list bs place, h.closest, refused seek bs place h.fits bs refusal r)
-
 module _ (end : End) (seek : Search) (z : 0 < seek.size) (old new : List (List Block)) (space : AreSpace old) where
   fit_at : (answer : Result Taken Refusal) → FitsAt end seek old new answer → AllocatesFit end seek (blocks_of old) (blocks_of new) answer
   fit_at answer h =

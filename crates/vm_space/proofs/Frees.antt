@@ -38,20 +38,6 @@ freed_over [] us r k h = with_free_append k us r h
 freed_over (x ∷ []) us r k h = freed_on_append x.state x k us r h
 freed_over (x ∷ y ∷ m) us r k h = ap (λ (b : List Block). x ∷ b) (freed_over (y ∷ m) us r k h)
 
--- The block `was` of a list became the gap k, joined with its free neighbours. The list has other blocks before it, or after it.
-module _ (was k : Range) (m us x y : List Block) (e : x ≡ m ++ held_block was ∷ us) (f : y ≡ freed_between m k us) where
-  pub freed_after : (l : List Block) → 0 < length m → (l ++ x ≡ (l ++ m) ++ held_block was ∷ us) × (l ++ y ≡ freed_between (l ++ m) k us)
-  freed_after l n = (
-    ap (λ (z : List Block). l ++ z) e ∙ sym (append_assoc l m (held_block was ∷ us)),
-    ap (λ (z : List Block). l ++ z) f ∙ sym (freed_under l m us k n),
-  )
-
-  pub freed_before : (r : List Block) → 0 < length us → (x ++ r ≡ m ++ held_block was ∷ (us ++ r)) × (y ++ r ≡ freed_between m k (us ++ r))
-  freed_before r n = (
-    ap (λ (z : List Block). z ++ r) e ∙ append_assoc m (held_block was ∷ us) r,
-    ap (λ (z : List Block). z ++ r) f ∙ freed_over m us r k n,
-  )
-
 -- Joining takes at most the next block away.
 length-join_if : (s : NodeState) (k : Range) (b : Block) (us : List Block) → length us + 1 ≤ length (join_if s k b us)
 length-join_if Free k b us = omega arith
@@ -73,26 +59,6 @@ pub length-freed : (m : List Block) (k : Range) (us : List Block)
 length-freed [] k us = let h = length-with_free k us in (omega (arith, h.0), omega arith, h.0)
 length-freed (x ∷ []) k us = let h = length-freed_on x.state x k us in (omega (arith, h.0), omega (arith, h.1), h.0)
 length-freed (x ∷ y ∷ m) k us = let h = length-freed (y ∷ m) k us in (omega (arith, h.0), omega (arith, h.1), omega (arith, h.2))
-
--- A freed block that is joined with the next one starts at the same address.
-start_join : (s : NodeState) (k : Range) (b : Block) (us : List Block) → start_of (join_if s k b us) ≡ k.start
-start_join Free k b us = refl
-start_join Allocated k b us = refl
-
-start_freed_on : (s : NodeState) (x : Block) (k : Range) (us : List Block) → x.state ≡ s → start_of (freed_on s x k us) ≡ x.key.start
-start_freed_on Allocated x k us e = refl
-start_freed_on Free x k [] e = refl
-start_freed_on Free x k (b ∷ us) e = start_join b.state (record { start = x.key.start; end = k.end }) b us
-
-pub start_free : (k : Range) (us : List Block) → start_of (with_free k us) ≡ k.start
-start_free k [] = refl
-start_free k (b ∷ us) = start_join b.state k b us
-
--- A list with a freed block starts at the same address.
-pub start_freed : (m : List Block) (k : Range) (us : List Block) → 0 < length m → start_of (freed_between m k us) ≡ start_of m
-start_freed [] k us h = absurd (omega arith)
-start_freed (x ∷ []) k us h = start_freed_on x.state x k us refl
-start_freed (x ∷ y ∷ m) k us h = refl
 
 -- The cover after a block is freed.
 tiles_join : (s : NodeState) (hi a z : ℕ) (b : Block) (us : List Block) → b.state ≡ s → a ≤ z → Tiles Allocated (z + 1) (b ∷ us) hi

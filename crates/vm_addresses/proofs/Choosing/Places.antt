@@ -46,23 +46,6 @@ fit_here b n a t z d f = (f.0, d, f.1, omega (arith, f.2))
 pub above : (p : NodeState) (lo hi s e : ℕ) (bs : List Block) → Tiles p lo bs hi → s ≤ e → InFreeBlock bs s e → lo ≤ s
 above p lo hi s e bs t l f = (free_is_clear p lo hi s e s bs t f (omega arith) l).0
 
-not_below : (p : NodeState) (lo hi n a t u : ℕ) (xs ys : List Block) (b : Block) → Tiles p lo (xs ++ b ∷ ys) hi → All (HasNoFit n a) xs →
-    IsLowestFit n a b t → 0 < n → u % a ≡ 0 → InFreeBlock (xs ++ b ∷ ys) u (u + n - 1) → t ≤ u
-unfolding HasNoFit IsLowestFit
-not_below p lo hi n a t u [] ys b h nf l z d f =
-    ⊎_elim
-    (λ (i : (b.state ≡ Free) × (b.key.start ≤ u) × (u + n - 1 ≤ b.key.end)). l.1 u (fit_here b n a u z d i))
-    (λ (i : InFreeBlock ys u (u + n - 1)). let g = above b.state (b.key.end + 1) hi u (u + n - 1) ys h.3 (omega arith) i in omega
-    (arith, g, l.0.3))
-    f
-not_below p lo hi n a t u (x ∷ xs) ys b h nf l z d f =
-    ⊎_elim
-    (λ (i : (x.state ≡ Free) × (x.key.start ≤ u) × (u + n - 1 ≤ x.key.end)). absurd
-    (All-head (HasNoFit n a) x xs nf u (fit_here x n a u z d i)))
-    (λ (i : InFreeBlock (xs ++ b ∷ ys) u (u + n - 1)). not_below x.state (x.key.end + 1) hi n a t u xs ys b h.3
-    (All-tail (HasNoFit n a) x xs nf) l z d i)
-    f
-
 not_above : (p : NodeState) (lo hi n a t u : ℕ) (xs ys : List Block) (b : Block) → Tiles p lo (xs ++ b ∷ ys) hi → All (HasNoFit n a) ys →
     IsHighestFit n a b t → 0 < n → u % a ≡ 0 → InFreeBlock (xs ++ b ∷ ys) u (u + n - 1) → u ≤ t
 unfolding HasNoFit IsHighestFit

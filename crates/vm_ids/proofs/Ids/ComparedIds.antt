@@ -49,14 +49,6 @@ same_next lo hi None (Some m) f g e = absurd (omega (arith, f, g.1))
 same_next lo hi (Some n) None f g e = absurd (omega (arith, g, f.1))
 same_next lo hi (Some n) (Some m) f g e = ap Some e
 
--- Sets of numbers with equal lists are equal.
-pub equal_lists : (a b : List ℕ) → IsTrue (pointwise nat_eq a b) ↔ (a ≡ b)
-equal_lists a b =
-    let by_order : pointwise nat_eq a b ≡ is_eq (slice_cmp nat_cmp a b) = lists_ties nat_cmp (λ x y. sym (unsigned_tied x y)) a b in (
-      λ t. slice_cmp-IsAntisymmetric set.nat_cmp-IsAntisymmetric a b ((Equal-is (slice_cmp nat_cmp a b)).0 (sym by_order ∙ t)),
-      λ e. by_order ∙ (Equal-is (slice_cmp nat_cmp a b)).1 (ap (slice_cmp nat_cmp a) (sym e) ∙ tied_itself (lists_total nat_cmp_total) a),
-    )
-
 -- The fields of an id allocator are valid, and represent the state.
 pub record Represent (lo hi : ℕ) (next : Option ℕ) (freed : BTreeSet ℕ) (state : IdState) : Type 0 where
   pub valid : AreIds lo hi next freed
