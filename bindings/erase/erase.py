@@ -39,9 +39,9 @@ FOLDERS_OF_TESTS = {
 LIBRARIES = {folder.split("::")[0] for folder in FOLDERS}
 # Libraries whose items only proved modules can use. They alone can also use a public function of another library
 # that has a precondition.
-INNER = {"vm_btree", "vm_commands", "vm_leaf", "vm_list", "vm_space", "vm_tree"}
+INNER = {"vm_tree", "vm_commands", "vm_leaf", "vm_list", "vm_space", "vm_tree"}
 # A library of which the others do not use everything.
-WIDE = {"vm_btree"}
+WIDE = {"vm_tree"}
 # Libraries that callers in Rust and C need, and no program.
 FOR_CALLERS = {"vm_range_map"}
 # Names of Rattle's prelude that Rust's prelude does not have or defines differently. `rattle` has them.

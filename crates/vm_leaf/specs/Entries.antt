@@ -4,7 +4,7 @@ use Rattle.vm_leaf.specs.declared.block.Block.{Block}
 use Rattle.vm_leaf.specs.declared.leaf.TheConstants.{CAPACITY, MIN_BLOCKS}
 use Rattle.vm_leaf.specs.Blocks.{start_of, longest_gap, IsRun}
 use Rattle.vm_leaf.specs.Multiples.{most_alignments}
-use Rattle.vm_btree.specs.declared.entries.Entry.{Entry}
+use Rattle.vm_tree.specs.declared.entries.Entry.{Entry}
 
 -- What is stored beside a leaf: its first address, and the summary of its gaps.
 abbrev pub blocks_entry : List Block → Entry

@@ -7,7 +7,7 @@ use Rattle.std.proofs.lemmas.List.Elements.{All-weaker, filter_passes}
 use Rattle.std.proofs.lemmas.List.Folds.{find-append}
 use Rattle.vm_list.specs.Entries.{IsDescendingBy, above, below, with_entry, without, entry_at}
 use Rattle.vm_list.specs.EntryLaws.{EntriesAreByKey}
-use Rattle.vm_btree.specs.Subtree.{AllOf}
+use Rattle.vm_tree.specs.Subtree.{AllOf}
 use Rattle.vm_list.proofs.Falls.{Falls, falls, falls_both, descends, all_by, all_weaker}
 
 module _ {X : Type 0} (key : X → ℕ) (t : ℕ) where

@@ -1,6 +1,6 @@
 -- Lists that descend, in parts.
 use Rattle.std.proofs.Common.{ℕ, zero, suc, ◌<◌, ◌≤◌, List, [], ◌∷◌, ◌++◌, length, get_or, arith}
-use Rattle.vm_btree.specs.Subtree.{AllOf}
+use Rattle.vm_tree.specs.Subtree.{AllOf}
 use Rattle.vm_list.specs.Entries.{IsDescendingBy}
 use Rattle.vm_list.specs.Leaves.{lowest_key}
 

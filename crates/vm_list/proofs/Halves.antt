@@ -1,7 +1,7 @@
 -- An entry is put into one of two parts of a descending list.
 use Rattle.std.proofs.Common.{◌≡◌, ℕ, ◌<◌, ◌≤◌, List, [], ◌∷◌, ◌++◌, length, get_or, arith, sym, ap, ◌∙◌, subst, refl, None}
 use Rattle.std.proofs.lemmas.List.{append-nil}
-use Rattle.vm_btree.specs.Subtree.{AllOf}
+use Rattle.vm_tree.specs.Subtree.{AllOf}
 use Rattle.vm_list.specs.Entries.{IsDescendingBy, with_entry, entry_at}
 use Rattle.vm_list.proofs.Falls.{Falls, AreOver, falls, falls_left, falls_right, falls_over, descends, all_weaker}
 use Rattle.vm_list.proofs.Mids.{with_mid, none_right}

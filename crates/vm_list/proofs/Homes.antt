@@ -1,12 +1,12 @@
 -- The leaf of a key is the middle of all entries.
 use Rattle.std.proofs.Common.{◌≡◌, ℕ, suc, ◌+◌, ◌<◌, ◌≤◌, List, [], ◌∷◌, ◌++◌, length, arith, sym, ap, ◌∙◌, subst, inl, inr, Option, Some, None, append_assoc, length-append}
 use Rattle.std.proofs.lemmas.List.{append-nil}
-use Rattle.vm_btree.specs.Subtree.{AllOf, Ascend, AreFrom}
-use Rattle.vm_btree.specs.Edits.{IsHome, IsRefused, IsEdited, IsBefore}
+use Rattle.vm_tree.specs.Subtree.{AllOf, Ascend, AreFrom}
+use Rattle.vm_tree.specs.Edits.{IsHome, IsRefused, IsEdited, IsBefore}
 use Rattle.vm_list.specs.Entries.{IsDescendingBy, with_entry, without, entry_at}
 use Rattle.vm_list.specs.Leaves.{items_of, lowest_key, leaf_entry, IsEnough, AreLeaves, IsMid}
-use Rattle.vm_btree.specs.Mends.{IsRegrouped}
-use Rattle.vm_btree.specs.Shrinks.{IsShrunk, Meet}
+use Rattle.vm_tree.specs.Mends.{IsRegrouped}
+use Rattle.vm_tree.specs.Shrinks.{IsShrunk, Meet}
 use Rattle.vm_list.specs.Puts.{IsPut, IsTaken, Meets, Joins}
 use Rattle.vm_list.proofs.EntryLaws.{taken_descends}
 use Rattle.vm_list.proofs.Lows.{lowest_append, lowest_of}

@@ -4,11 +4,11 @@ use Rattle.std.specs.List.{All}
 use Rattle.std.specs.Option.{IsSome, is_some}
 use Rattle.std.proofs.lemmas.List.{get_or-drop, length-drop}
 use Rattle.std.proofs.lemmas.List.Elements.{All-weaker}
-use Rattle.vm_btree.specs.Subtree.{AllOf}
+use Rattle.vm_tree.specs.Subtree.{AllOf}
 use Rattle.vm_list.specs.Entries.{IsDescendingBy, above, below, with_entry, without, entry_at, IsFoundAt}
-use Rattle.vm_btree.specs.Edits.{IsRefused}
+use Rattle.vm_tree.specs.Edits.{IsRefused}
 use Rattle.vm_list.specs.Leaves.{IsMid, AreLeaves, items_of, leaf_entry}
-use Rattle.vm_btree.specs.Shrinks.{IsShrunk}
+use Rattle.vm_tree.specs.Shrinks.{IsShrunk}
 use Rattle.vm_list.specs.Puts.{CanLower, IsLowered, IsNotLowered, Joins}
 use Rattle.vm_list.proofs.Cuts.{below_after, sets_at}
 use Rattle.vm_list.proofs.Found.{found}

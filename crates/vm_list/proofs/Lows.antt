@@ -1,6 +1,6 @@
 -- The lowest key of a list.
 use Rattle.std.proofs.Common.{◌≡◌, ℕ, ◌<◌, List, [], ◌∷◌, ◌++◌, length, arith, refl}
-use Rattle.vm_btree.specs.Subtree.{AllOf}
+use Rattle.vm_tree.specs.Subtree.{AllOf}
 use Rattle.vm_list.specs.Leaves.{lowest_key}
 
 module _ {X : Type 0} (key : X → ℕ) where

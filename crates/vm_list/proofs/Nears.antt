@@ -4,10 +4,10 @@ use Rattle.std.specs.List.{filter, find}
 use Rattle.std.specs.Option.{option_or, is_some, IsSome}
 use Rattle.std.proofs.lemmas.Bool.{cases_lt, cond-true, cond-false, lt-ltb, le-ltb, le-leb, eq-eqb, true≢false}
 use Rattle.std.proofs.lemmas.List.{reverse-append}
-use Rattle.vm_btree.specs.Subtree.{AllOf}
+use Rattle.vm_tree.specs.Subtree.{AllOf}
 use Rattle.vm_list.specs.Entries.{IsDescendingBy, above, below, without, entry_at, at_or_above, highest_below}
 use Rattle.vm_list.specs.Leaves.{items_of, lowest_key, leaf_entry, IsEnough, AreLeaves, IsMid}
-use Rattle.vm_btree.specs.Walks.{IsFrom, start_or}
+use Rattle.vm_tree.specs.Walks.{IsFrom, start_or}
 use Rattle.vm_list.proofs.Lows.{lowest_append}
 use Rattle.vm_list.proofs.Falls.{Falls, falls, falls_right, falls_over, all_weaker, all_right}
 use Rattle.vm_list.proofs.Mids.{or_none, above_mid, under_mid, misses, keeps, omits, entry_mid, none_right, not_none}

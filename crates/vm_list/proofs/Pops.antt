@@ -2,9 +2,9 @@
 use Rattle.std.proofs.Common.{◌≡◌, ℕ, ◌+◌, ◌<◌, List, [], ◌∷◌, ◌++◌, length, arith, sym, ap, ◌∙◌, subst, refl, inl, inr, Option, Some, None, append_assoc}
 use Rattle.std.proofs.lemmas.Bool.{cases_lt, cond-true, cond-false, lt-ltb, le-ltb}
 use Rattle.std.proofs.lemmas.List.{append-nil}
-use Rattle.vm_btree.specs.Subtree.{AllOf}
-use Rattle.vm_btree.specs.Edits.{IsHome, IsRefused}
-use Rattle.vm_btree.specs.Shrinks.{IsShrunk, Meet}
+use Rattle.vm_tree.specs.Subtree.{AllOf}
+use Rattle.vm_tree.specs.Edits.{IsHome, IsRefused}
+use Rattle.vm_tree.specs.Shrinks.{IsShrunk, Meet}
 use Rattle.vm_list.specs.declared.id_set.Run.{Run}
 use Rattle.vm_list.specs.Entries.{IsDescendingBy}
 use Rattle.vm_list.specs.Leaves.{items_of, leaf_entry, AreLeaves, IsEnough}

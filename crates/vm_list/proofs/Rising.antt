@@ -1,7 +1,7 @@
 -- The lowest keys of leaves rise.
 use Rattle.std.proofs.Common.{ℕ, ◌<◌, ◌≤◌, List, [], ◌∷◌, length, arith}
-use Rattle.vm_btree.specs.Subtree.{AllOf}
-use Rattle.vm_btree.specs.Between.{Rise}
+use Rattle.vm_tree.specs.Subtree.{AllOf}
+use Rattle.vm_tree.specs.Between.{Rise}
 use Rattle.vm_list.specs.Leaves.{items_of, lowest_key, leaf_entry, IsEnough, AreLeaves}
 use Rattle.vm_list.proofs.Lows.{lowest_of}
 use Rattle.vm_list.proofs.Falls.{Falls, AreOver, falls, falls_left, falls_over, all_left, all_right, all_weaker}

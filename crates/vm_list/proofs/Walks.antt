@@ -1,7 +1,7 @@
 -- A leaf is begun at an end.
 use Rattle.std.proofs.Common.{◌≡◌, ◌<◌, List, [], ◌∷◌, ◌++◌, length, arith, sym, ap, ◌∙◌, subst, refl, append_assoc}
 use Rattle.std.proofs.lemmas.List.{append-nil}
-use Rattle.vm_btree.specs.Subtree.{AllOf}
+use Rattle.vm_tree.specs.Subtree.{AllOf}
 use Rattle.vm_list.specs.Leaves.{items_of, IsEnough}
 use Rattle.vm_list.specs.Iters.{left_in}
 use Rattle.vm_list.proofs.Falls.{all_left, all_right}

@@ -1,7 +1,7 @@
 -- Lists of entries in leaves.
 use Rattle.std.specs.Prelude.{◌≡◌, ℕ, ◌≤◌, ◌<◌, List, [], ◌∷◌, ◌++◌, length}
-use Rattle.vm_btree.specs.declared.entries.Entry.{Entry}
-use Rattle.vm_btree.specs.Subtree.{AllOf}
+use Rattle.vm_tree.specs.declared.entries.Entry.{Entry}
+use Rattle.vm_tree.specs.Subtree.{AllOf}
 use Rattle.vm_list.specs.Entries.{IsDescendingBy}
 
 -- The entries of leaves in ascending order. Each leaf descends, and so do these entries.

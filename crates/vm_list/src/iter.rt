@@ -1,14 +1,14 @@
 //! Iteration over the entries of a list from both ends.
 ghost use Rattle.std.specs.Prelude.{◌≡◌, ◌<◌, ◌++◌, [], length, reverse};
 ghost use Rattle.std.specs.Iterator.{YieldsFirstRef, YieldsLastRef, item_count};
-ghost use Rattle.vm_btree.specs.Subtree.{AllOf};
+ghost use Rattle.vm_tree.specs.Subtree.{AllOf};
 ghost use Rattle.vm_list.specs.Leaves.{items_of, IsEnough};
 ghost use Rattle.vm_list.specs.Iters.{left_in, IsBegun};
 
 use crate::Keyed;
 use crate::chunk::Chunk;
 use std::marker::Model;
-use vm_btree::LeafIter;
+use vm_tree::LeafIter;
 
 /// An iterator over the entries of a list in ascending order of their keys, or backwards.
 ///
@@ -23,7 +23,7 @@ pub struct Iter<'a, E: Keyed> {
 
 impl<'a, E: Keyed> Model for Iter<'a, E> {
     ghost use Rattle.std.specs.Prelude.{List, reverse};
-    ghost use Rattle.vm_btree.specs.Subtree.{AllOf};
+    ghost use Rattle.vm_tree.specs.Subtree.{AllOf};
     ghost use Rattle.vm_list.specs.Leaves.{IsEnough};
     ghost use Rattle.vm_list.specs.Iters.{left_in};
 

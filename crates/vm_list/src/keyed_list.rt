@@ -25,7 +25,7 @@ ghost use Rattle.vm_list.specs.Entries.{
 };
 ghost use Rattle.std.specs.List.{All};
 ghost use Rattle.vm_list.specs.Leaves.{items_of, IsEnough};
-ghost use Rattle.vm_btree.specs.Subtree.{AllOf};
+ghost use Rattle.vm_tree.specs.Subtree.{AllOf};
 ghost use Rattle.vm_list.specs.Puts.{CanLower};
 
 mod runs;
@@ -37,7 +37,7 @@ use crate::leaf::{Lower, Put, TakeOut};
 use std::alloc::{AllocError, AllocFailed, Global};
 use std::fmt::{Debug, Formatter, Write};
 use std::marker::Model;
-use vm_btree::{LeafIter, Tree};
+use vm_tree::{LeafIter, Tree};
 
 /// Entries in descending order of their keys.
 ///

@@ -7,7 +7,7 @@ ghost use Rattle.vm_list.specs.Entries.{entry_at};
 use crate::Keyed;
 use crate::chunk::{Chunk, MAX_ENTRIES, MIN_ENTRIES};
 use std::alloc::{AllocError, Global};
-use vm_btree::{Change, CopyLeaf, Cut, Cutting, Edit, Entry, Leaf};
+use vm_tree::{Change, CopyLeaf, Cut, Cutting, Edit, Entry, Leaf};
 
 impl<E: Keyed> Leaf for Chunk<E> {
     ghost entry = { leaf_entry E.key_of };

@@ -1,6 +1,6 @@
 //! Lists of entries in descending order of their keys, in leaves of at most 64 entries, and sets of ids.
 //!
-//! The leaves are those of a B+ tree (`vm_btree`). A call descends to the leaf of a key, and then finds the entry in
+//! The leaves are those of a B+ tree (`vm_tree`). A call descends to the leaf of a key, and then finds the entry in
 //! the leaf, so it takes logarithmic time. An insertion into a full leaf splits it: in half, or so that the leaf stays
 //! nearly full if keys come in order. A leaf with fewer than 16 entries is joined with one next to it if both have at
 //! most 48. The lowest entry is at the end of its leaf, so removing it moves nothing.

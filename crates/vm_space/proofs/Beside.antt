@@ -10,15 +10,15 @@ use Rattle.vm_leaf.specs.Block.{held_block}
 use Rattle.vm_leaf.specs.Blocks.{Tiles, nth, start_of, end_of, IsRun}
 use Rattle.vm_leaf.specs.Entries.{blocks_entry}
 use Rattle.vm_leaf.proofs.Tiles.{tiles_part, tiles_order}
-use Rattle.vm_btree.specs.declared.entries.Entry.{Entry}
-use Rattle.vm_btree.specs.Subtree.{AreFrom, Ascend}
-use Rattle.vm_btree.specs.Edits.{IsBefore, AtKey, IsRefused, IsEdited}
-use Rattle.vm_btree.specs.Shrinks.{Any}
+use Rattle.vm_tree.specs.declared.entries.Entry.{Entry}
+use Rattle.vm_tree.specs.Subtree.{AreFrom, Ascend}
+use Rattle.vm_tree.specs.Edits.{IsBefore, AtKey, IsRefused, IsEdited}
+use Rattle.vm_tree.specs.Shrinks.{Any}
 use Rattle.vm_space.specs.Leaves.{blocks_of, HaveBlocks}
 use Rattle.vm_space.specs.Spaces.{EndBelow, AreSpace}
 use Rattle.vm_space.specs.Edges.{BecomesOne, ExtendsLast, ExtendsFirst, RefusesExtension, IsFirstHeld, IsLastHeld, IsHeldAt, IsEdge, IsApart, NoGap, EndHeld, StartHeld, IsExtendedLow, IsExtendedHigh, ExtendedAt, end_before, end_if, start_if}
 use Rattle.vm_space.specs.declared.edge.Edge.{Edge}
-use Rattle.vm_btree.specs.declared.end.End.TheVariants.{First, Last}
+use Rattle.vm_tree.specs.declared.end.End.TheVariants.{First, Last}
 use Rattle.vm_space.proofs.Lists.{cut_tiles, start_append, end_append, end_left, cover_left, cover_right, cut_at, cut_last}
 use Rattle.vm_space.proofs.Spaces.{blocks_append, blocks_cut, below_left, below_right, have_right, space_ascends}
 use Rattle.vm_space.proofs.Frees.{not_free}

@@ -12,7 +12,7 @@ use Rattle.vm_leaf.specs.Block.{free_block}
 use Rattle.vm_leaf.specs.Blocks.{Tiles, IsRun, start_of, end_of}
 use Rattle.vm_leaf.specs.Fit.{IsFit, IsLowestFit, IsHighestFit}
 use Rattle.vm_leaf.specs.Windows.{cut_to}
-use Rattle.vm_btree.specs.Seeking.{beyond}
+use Rattle.vm_tree.specs.Seeking.{beyond}
 use Rattle.vm_space.specs.NodeCounts.{
   has_fit_in,
   lacks_place,
@@ -26,12 +26,12 @@ use Rattle.vm_space.specs.NodeCounts.{
   IsWholeWindow,
   IsSearchCount,
 }
-use Rattle.vm_btree.specs.declared.end.End.{End}
-use Rattle.vm_btree.specs.declared.end.End.TheVariants.{First, Last}
+use Rattle.vm_tree.specs.declared.end.End.{End}
+use Rattle.vm_tree.specs.declared.end.End.TheVariants.{First, Last}
 use Rattle.vm_space.specs.declared.search.Search.{Search}
 use Rattle.vm_space.specs.Allocation.{ListPlace, window_of, IsSearch, IsClosestFit, IsClosestPlace}
 use Rattle.vm_space.specs.Closest.{weight_in, reaches}
-use Rattle.vm_btree.specs.Seeking.{extra}
+use Rattle.vm_tree.specs.Seeking.{extra}
 use Rattle.vm_space.proofs.Seekings.{reach_true}
 use Rattle.vm_space.proofs.Lists.{cut_tiles}
 use Rattle.vm_space.proofs.SearchedBlocks.{one_found, start_of_run, end_of_run}

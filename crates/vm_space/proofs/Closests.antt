@@ -8,12 +8,12 @@ use Rattle.vm_leaf.specs.declared.block.Block.{Block}
 use Rattle.std.proofs.lemmas.List.Elements.{All-nil, All-cons}
 use Rattle.vm_leaf.specs.Fit.{HasNoFit}
 use Rattle.vm_leaf.specs.Entries.{HasEnough}
-use Rattle.vm_btree.specs.Edits.{StandsAt}
-use Rattle.vm_btree.specs.Subtree.{Subtree}
-use Rattle.vm_btree.specs.Seeking.{beyond, total, extra}
-use Rattle.vm_btree.specs.Sought.{nodes, AtNearest, IsTreeSought, IsTreeFailed}
-use Rattle.vm_btree.specs.declared.end.End.{End}
-use Rattle.vm_btree.specs.declared.end.End.TheVariants.{First, Last}
+use Rattle.vm_tree.specs.Edits.{StandsAt}
+use Rattle.vm_tree.specs.Subtree.{Subtree}
+use Rattle.vm_tree.specs.Seeking.{beyond, total, extra}
+use Rattle.vm_tree.specs.Sought.{nodes, AtNearest, IsTreeSought, IsTreeFailed}
+use Rattle.vm_tree.specs.declared.end.End.{End}
+use Rattle.vm_tree.specs.declared.end.End.TheVariants.{First, Last}
 use Rattle.vm_space.specs.Allocation.{ListPlace, window_of, HasNoPlace, IsSearch, IsClosestPlace, SettlesAt, HasNoFitIn}
 use Rattle.vm_space.specs.Closest.{weight_in, seeking, reaches}
 use Rattle.vm_space.specs.Fitting.{IsFitTree, RefusesClosest, EditsClosest, NeedsClosest, answer_of}

@@ -9,17 +9,17 @@ use Rattle.vm_leaf.specs.declared.leaf.TheConstants.{MIN_BLOCKS}
 use Rattle.vm_leaf.specs.Block.{free_block, held_block}
 use Rattle.vm_leaf.specs.Blocks.{Tiles, nth, start_of, with_free, freed_between, IsRun}
 use Rattle.vm_leaf.specs.Entries.{blocks_entry, HasEnough, AreNext, JoinsTo}
-use Rattle.vm_btree.specs.Subtree.{Subtree, AreFrom, Ascend, AllOf}
-use Rattle.vm_btree.specs.Edits.{AtKey, IsBefore}
-use Rattle.vm_btree.specs.Shrinks.{MeetsAfter}
-use Rattle.vm_btree.specs.Lowers.{IsTreeCut}
+use Rattle.vm_tree.specs.Subtree.{Subtree, AreFrom, Ascend, AllOf}
+use Rattle.vm_tree.specs.Edits.{AtKey, IsBefore}
+use Rattle.vm_tree.specs.Shrinks.{MeetsAfter}
+use Rattle.vm_tree.specs.Lowers.{IsTreeCut}
 use Rattle.vm_space.specs.Leaves.{blocks_of, HaveBlocks}
 use Rattle.vm_space.specs.Spaces.{AreSpace}
 use Rattle.vm_space.specs.Frees.{FreesBlock, IsFreed}
 use Rattle.vm_space.specs.Edges.{BecomesOne, Drops, DropsFirst, DropsLast, FreesEnd, FreesFirst, FreesLast, IsShorter, RefusesEnd, IsFirstHeld, IsLastHeld, IsHeldAt, IsEdge, IsApart, NoGap, EndHeld, StartHeld, IsExtendedLow, IsExtendedHigh, ExtendedAt, left_of, low_of, end_before, start_if}
 use Rattle.vm_space.specs.declared.edge.Edge.{Edge}
-use Rattle.vm_btree.specs.declared.end.End.{End}
-use Rattle.vm_btree.specs.declared.end.End.TheVariants.{First, Last}
+use Rattle.vm_tree.specs.declared.end.End.{End}
+use Rattle.vm_tree.specs.declared.end.End.TheVariants.{First, Last}
 use Rattle.vm_space.proofs.Lists.{last_append}
 use Rattle.vm_space.proofs.Spaces.{blocks_cut, have_append, have_left, have_right, space_ascends}
 use Rattle.vm_space.proofs.Steps.{left_edge, right_edge, after_held, before_held}

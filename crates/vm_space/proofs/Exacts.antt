@@ -9,9 +9,9 @@ use Rattle.vm_leaf.specs.Block.{free_block}
 use Rattle.vm_leaf.specs.Blocks.{nth, parts}
 use Rattle.vm_leaf.specs.Entries.{blocks_entry, HasEnough}
 use Rattle.vm_leaf.proofs.Tiles.{tiles_part}
-use Rattle.vm_btree.specs.Subtree.{Subtree}
-use Rattle.vm_btree.specs.Edits.{IsRefused, IsEdited}
-use Rattle.vm_btree.specs.Raised.{IsTreeAfter}
+use Rattle.vm_tree.specs.Subtree.{Subtree}
+use Rattle.vm_tree.specs.Edits.{IsRefused, IsEdited}
+use Rattle.vm_tree.specs.Raised.{IsTreeAfter}
 use Rattle.vm_space.specs.Leaves.{blocks_of, HaveBlocks}
 use Rattle.vm_space.specs.Allocation.{IsOutOfMemory, AllocatesExact}
 use Rattle.vm_space.specs.Placing.{IsStartIn}

@@ -5,12 +5,12 @@ use Rattle.vm_leaf.specs.declared.block.Block.{Block}
 use Rattle.vm_leaf.specs.Rest.{added_by}
 use Rattle.vm_space.specs.Allocation.{AllocatesFit}
 use Rattle.vm_space.specs.Placing.{in_list, with_place, IsClosestLeafPlace, RefusesPlace}
-use Rattle.vm_btree.specs.declared.end.End.{End}
+use Rattle.vm_tree.specs.declared.end.End.{End}
 use Rattle.vm_space.specs.declared.place.Place.{Place}
 use Rattle.vm_space.specs.declared.search.Search.{Search}
 use Rattle.vm_space.specs.declared.search.Taken.{Taken}
 use Rattle.vm_space.specs.declared.search.Refusal.{Refusal}
-use Rattle.vm_btree.specs.Subtree.{Subtree}
+use Rattle.vm_tree.specs.Subtree.{Subtree}
 use Rattle.vm_space.specs.Leaves.{blocks_of, HaveBlocks}
 use Rattle.vm_space.specs.Spaces.{AreSpace}
 use Rattle.vm_space.specs.Fitting.{SettlesFit, FitsAt, FitsTree}

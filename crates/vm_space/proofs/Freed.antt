@@ -10,8 +10,8 @@ use Rattle.vm_leaf.specs.Block.{held_block}
 use Rattle.vm_leaf.specs.Blocks.{nth, start_of, end_of, freed_between, freed_on, with_free, join_if, IsRun}
 use Rattle.vm_leaf.specs.Entries.{blocks_entry}
 use Rattle.vm_leaf.proofs.Tiles.{tiles_part}
-use Rattle.vm_btree.specs.Subtree.{Subtree}
-use Rattle.vm_btree.specs.Edits.{IsRefused}
+use Rattle.vm_tree.specs.Subtree.{Subtree}
+use Rattle.vm_tree.specs.Edits.{IsRefused}
 use Rattle.vm_space.specs.Leaves.{blocks_of, HaveBlocks, IsInLeaf}
 use Rattle.vm_space.specs.Spaces.{EndBelow, AreSpace}
 use Rattle.vm_space.specs.Frees.{FreesBlock, Holds, RefusesFree, IsFreed, FreesLeaves}

@@ -9,9 +9,9 @@ use Rattle.vm_leaf.specs.declared.block.Block.{Block}
 use Rattle.vm_leaf.specs.Blocks.{Tiles, NotBothFree, IsRun}
 use Rattle.vm_leaf.specs.Entries.{HasEnough, blocks_entry}
 use Rattle.vm_leaf.specs.declared.leaf.TheConstants.{CAPACITY}
-use Rattle.vm_btree.specs.Found.{IsLeafOf}
-use Rattle.vm_btree.specs.Sized.{IsSizedTree}
-use Rattle.vm_btree.specs.Subtree.{AllOf}
+use Rattle.vm_tree.specs.Found.{IsLeafOf}
+use Rattle.vm_tree.specs.Sized.{IsSizedTree}
+use Rattle.vm_tree.specs.Subtree.{AllOf}
 use Rattle.vm_space.specs.Fibonacci.{fibonacci, fibonacci_pair}
 use Rattle.vm_space.specs.Leaves.{blocks_of, HaveBlocks}
 use Rattle.vm_space.specs.Shape.{Shape, blocks}

@@ -7,10 +7,10 @@ use Rattle.vm_leaf.specs.Block.{held_block}
 use Rattle.vm_leaf.specs.Blocks.{IsRun}
 use Rattle.vm_leaf.specs.Entries.{blocks_entry, HasEnough, AreNext, JoinsTo}
 use Rattle.std.proofs.lemmas.List.{append-nil}
-use Rattle.vm_btree.specs.Subtree.{Subtree, AllOf}
-use Rattle.vm_btree.specs.Mends.{IsRegrouped}
-use Rattle.vm_btree.specs.Shrinks.{Meet, MeetsAfter}
-use Rattle.vm_btree.specs.Lowers.{IsTreeCut}
+use Rattle.vm_tree.specs.Subtree.{Subtree, AllOf}
+use Rattle.vm_tree.specs.Mends.{IsRegrouped}
+use Rattle.vm_tree.specs.Shrinks.{Meet, MeetsAfter}
+use Rattle.vm_tree.specs.Lowers.{IsTreeCut}
 use Rattle.vm_space.specs.Leaves.{blocks_of, HaveBlocks}
 use Rattle.vm_space.specs.Spaces.{AreSpace}
 use Rattle.vm_space.specs.Frees.{FreesBlock, FreesIn, IsFreed, RefusesInside, DoneInside, CutAfter}

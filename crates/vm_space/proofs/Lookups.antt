@@ -11,8 +11,8 @@ use Rattle.vm_leaf.specs.Blocks.{nth, blank, start_of, end_of, Tiles, IsRun}
 use Rattle.vm_leaf.proofs.Tiles.{tiles_part}
 use Rattle.vm_space.specs.Lookups.{find_superset, IsLeafAt}
 use Rattle.vm_leaf.specs.Entries.{blocks_entry}
-use Rattle.vm_btree.specs.Edits.{IsHome}
-use Rattle.vm_btree.specs.Found.{IsLeafOf}
+use Rattle.vm_tree.specs.Edits.{IsHome}
+use Rattle.vm_tree.specs.Found.{IsLeafOf}
 use Rattle.vm_space.specs.Leaves.{blocks_of, HaveBlocks}
 use Rattle.vm_space.specs.Spaces.{AreSpace}
 use Rattle.vm_space.proofs.Lists.{start_append, end_append, end_left, cover_right}

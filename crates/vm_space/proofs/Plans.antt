@@ -10,8 +10,8 @@ use Rattle.vm_leaf.specs.Blocks.{IsRun}
 use Rattle.vm_leaf.specs.Entries.{HasEnough}
 use Rattle.vm_leaf.specs.declared.leaf.TheConstants.{CAPACITY, MIN_BLOCKS}
 use Rattle.vm_leaf.specs.SpaceBlocks.{blocks_between, gap_before}
-use Rattle.vm_btree.specs.Subtree.{Subtree, AllOf, leaf_of}
-use Rattle.vm_btree.specs.Building.{IsBuiltTree as IsBuiltOf}
+use Rattle.vm_tree.specs.Subtree.{Subtree, AllOf, leaf_of}
+use Rattle.vm_tree.specs.Building.{IsBuiltTree as IsBuiltOf}
 use Rattle.vm_space.specs.Leaves.{blocks_of, HaveBlocks}
 use Rattle.vm_space.specs.Spaces.{AreSpace, EndBelow}
 use Rattle.vm_space.specs.Building.{shares, IsBuiltTree}

@@ -11,12 +11,12 @@ use Rattle.vm_leaf.specs.Rest.{IsRest}
 use Rattle.vm_leaf.specs.Fit.{IsFit, IsLowestFit, IsHighestFit}
 use Rattle.vm_leaf.specs.Windows.{cut_to, HaveNoFitIn}
 use Rattle.vm_leaf.specs.declared.leaf.Fit.{Fit}
-use Rattle.vm_btree.specs.Seeking.{beyond}
+use Rattle.vm_tree.specs.Seeking.{beyond}
 use Rattle.vm_space.specs.Allocation.{ListPlace, IsClosestFit, IsClosestPlace, HasNoPlace, HasNoFitIn, window_of, AllocatesFit}
 use Rattle.vm_space.specs.Placing.{IsClosestFitIn, IsClosestLeafPlace}
 use Rattle.vm_space.specs.declared.place.Place.{Place}
-use Rattle.vm_btree.specs.declared.end.End.{End}
-use Rattle.vm_btree.specs.declared.end.End.TheVariants.{First, Last}
+use Rattle.vm_tree.specs.declared.end.End.{End}
+use Rattle.vm_tree.specs.declared.end.End.TheVariants.{First, Last}
 use Rattle.vm_space.specs.declared.search.Search.{Search}
 use Rattle.vm_space.specs.declared.search.Taken.{Taken}
 use Rattle.vm_space.specs.declared.search.Refusal.{Refusal}

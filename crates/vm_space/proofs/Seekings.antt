@@ -9,12 +9,12 @@ use Rattle.vm_ranges.specs.declared.state.NodeState.TheVariants.{Allocated}
 use Rattle.vm_leaf.specs.declared.block.Block.{Block}
 use Rattle.vm_leaf.specs.Blocks.{start_of, end_of, IsRun}
 use Rattle.vm_leaf.specs.Entries.{blocks_entry}
-use Rattle.vm_btree.specs.declared.entries.Entry.{Entry}
-use Rattle.vm_btree.specs.Rows.{joined}
-use Rattle.vm_btree.specs.Subtree.{AllOf, leaves_entry}
-use Rattle.vm_btree.specs.Seeking.{IsSeeking, total}
-use Rattle.vm_btree.specs.declared.end.End.{End}
-use Rattle.vm_btree.proofs.Leaves.{joined-none}
+use Rattle.vm_tree.specs.declared.entries.Entry.{Entry}
+use Rattle.vm_tree.specs.Rows.{joined}
+use Rattle.vm_tree.specs.Subtree.{AllOf, leaves_entry}
+use Rattle.vm_tree.specs.Seeking.{IsSeeking, total}
+use Rattle.vm_tree.specs.declared.end.End.{End}
+use Rattle.vm_tree.proofs.Leaves.{joined-none}
 use Rattle.vm_space.specs.Allocation.{window_of, HasNoFitIn, HasNoPlace, IsSearch}
 use Rattle.vm_space.specs.Closest.{weight_in, Reaches, may_fit, fits_entry, AreRun, seeking, reaches, IsValid}
 use Rattle.vm_space.specs.Leaves.{blocks_of, HaveBlocks}

@@ -9,9 +9,9 @@ use Rattle.vm_leaf.specs.Block.{free_block, held_block}
 use Rattle.vm_leaf.specs.Blocks.{Tiles, longest_gap, nth, start_of, end_of, before_part, after_part, parts, IsRun}
 use Rattle.vm_leaf.specs.Entries.{blocks_entry}
 use Rattle.vm_leaf.proofs.Tiles.{tiles_order, tiles_part}
-use Rattle.vm_btree.specs.Subtree.{AreFrom, Ascend, AllOf, leaves_entry}
-use Rattle.vm_btree.specs.Between.{Rise}
-use Rattle.vm_btree.specs.Edits.{IsBefore, IsHome}
+use Rattle.vm_tree.specs.Subtree.{AreFrom, Ascend, AllOf, leaves_entry}
+use Rattle.vm_tree.specs.Between.{Rise}
+use Rattle.vm_tree.specs.Edits.{IsBefore, IsHome}
 use Rattle.vm_space.specs.Leaves.{blocks_of, HaveBlocks, IsInLeaf}
 use Rattle.vm_space.specs.Spaces.{EndBelow, AreSpace}
 use Rattle.vm_space.proofs.Lists.{start_append, end_append, end_left, cut_tiles, cover_left, cover_right, longest_append}

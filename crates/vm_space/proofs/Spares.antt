@@ -2,7 +2,7 @@
 use Rattle.std.proofs.Common.{◌≡◌, ◌≢◌, ℕ, ◌-◌, ◌^◌, ◌≤◌, Option, Some, None, arith, inl, inr}
 use Rattle.std.proofs.Math.Nat.{pow-le-pow_right}
 use Rattle.std.proofs.lemmas.Bool.{cases_lt}
-use Rattle.vm_btree.specs.Edits.{IsRefused}
+use Rattle.vm_tree.specs.Edits.{IsRefused}
 use Rattle.vm_leaf.specs.Entries.{blocks_entry}
 use Rattle.vm_space.specs.Exact.{IsFullAt}
 use Rattle.vm_space.specs.Shape.{Shape, blocks, height_of}

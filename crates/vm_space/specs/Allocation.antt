@@ -11,9 +11,9 @@ use Rattle.vm_leaf.specs.Fit.{HasNoFit, IsLowestFit, IsHighestFit}
 use Rattle.vm_leaf.specs.Windows.{cut_to}
 use Rattle.vm_ranges.specs.declared.state.NodeState.{NodeState}
 use Rattle.vm_ranges.specs.declared.state.NodeState.TheVariants.{Free, Allocated}
-use Rattle.vm_btree.specs.Seeking.{beyond}
-use Rattle.vm_btree.specs.declared.end.End.{End}
-use Rattle.vm_btree.specs.declared.end.End.TheVariants.{First, Last}
+use Rattle.vm_tree.specs.Seeking.{beyond}
+use Rattle.vm_tree.specs.declared.end.End.{End}
+use Rattle.vm_tree.specs.declared.end.End.TheVariants.{First, Last}
 use Rattle.vm_space.specs.declared.search.Search.{Search}
 use Rattle.vm_space.specs.declared.search.Taken.{Taken}
 use Rattle.vm_space.specs.declared.search.Refusal.{Refusal}

@@ -5,7 +5,7 @@ use Rattle.vm_ranges.specs.Address.{AreInOrder}
 use Rattle.vm_leaf.specs.declared.block.Block.{Block}
 use Rattle.vm_leaf.specs.declared.leaf.TheConstants.{CAPACITY}
 use Rattle.vm_leaf.specs.SpaceBlocks.{blocks_between}
-use Rattle.vm_btree.specs.Subtree.{Subtree}
+use Rattle.vm_tree.specs.Subtree.{Subtree}
 use Rattle.vm_space.specs.Shape.{blocks}
 use Rattle.vm_space.specs.Spaces.{AreSpace}
 use Rattle.vm_space.specs.declared.build.BlockCursor.{BlockCursor}

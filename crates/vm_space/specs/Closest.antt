@@ -3,9 +3,9 @@ use Rattle.std.specs.Prelude.{◌≡◌, ℕ, ◌≤◌, ◌<◌, ◌&&◌, nat_
 use Rattle.std.specs.Int.{w64, trailing_zeros}
 use Rattle.vm_leaf.specs.declared.block.Block.{Block}
 use Rattle.vm_leaf.specs.Blocks.{start_of, end_of, IsRun}
-use Rattle.vm_btree.specs.declared.entries.Entry.{Entry}
-use Rattle.vm_btree.specs.Seeking.{Seeking}
-use Rattle.vm_btree.specs.declared.end.End.{End}
+use Rattle.vm_tree.specs.declared.entries.Entry.{Entry}
+use Rattle.vm_tree.specs.Seeking.{Seeking}
+use Rattle.vm_tree.specs.declared.end.End.{End}
 use Rattle.vm_space.specs.Allocation.{window_of, HasNoPlace}
 use Rattle.vm_space.specs.Leaves.{blocks_of, HaveBlocks}
 use Rattle.vm_space.specs.NodeCounts.{weight, may_fit_in}

@@ -8,8 +8,8 @@ use Rattle.vm_leaf.specs.Block.{free_block, held_block}
 use Rattle.vm_leaf.specs.Blocks.{nth, start_of, end_of, with_free, freed_between}
 use Rattle.vm_space.specs.Leaves.{blocks_of}
 use Rattle.vm_space.specs.declared.edge.Edge.{Edge}
-use Rattle.vm_btree.specs.declared.end.End.{End}
-use Rattle.vm_btree.specs.declared.end.End.TheVariants.{First, Last}
+use Rattle.vm_tree.specs.declared.end.End.{End}
+use Rattle.vm_tree.specs.declared.end.End.TheVariants.{First, Last}
 
 -- ---- A gap between other blocks
 -- The blocks after a gap that was joined with us, if us begin with a gap.

@@ -3,18 +3,18 @@ use Rattle.std.specs.Prelude.{◌≡◌, ◌⊎◌, ℕ, ◌+◌, ◌<◌, List,
 use Rattle.vm_leaf.specs.declared.block.Block.{Block}
 use Rattle.vm_leaf.specs.declared.leaf.TheConstants.{CAPACITY}
 use Rattle.vm_leaf.specs.Rest.{added_by}
-use Rattle.vm_btree.specs.Subtree.{Subtree}
-use Rattle.vm_btree.specs.Sought.{nodes}
+use Rattle.vm_tree.specs.Subtree.{Subtree}
+use Rattle.vm_tree.specs.Sought.{nodes}
 use Rattle.vm_space.specs.NodeCounts.{IsSearchCount}
 use Rattle.vm_space.specs.Shape.{blocks}
 use Rattle.vm_space.specs.Allocation.{window_of, ListPlace, HasNoPlace, IsClosestPlace, SettlesAt}
-use Rattle.vm_btree.specs.Seeking.{beyond}
+use Rattle.vm_tree.specs.Seeking.{beyond}
 use Rattle.vm_space.specs.Leaves.{blocks_of, HaveBlocks}
 use Rattle.vm_space.specs.declared.search.Taken as taken
 use Rattle.vm_space.specs.declared.search.Refusal.{Refusal}
 use Rattle.vm_space.specs.declared.search.Refusal.TheVariants.{NoPlace}
 use Rattle.vm_space.specs.Placing.{IsClosestLeafPlace, RefusesPlace}
-use Rattle.vm_btree.specs.declared.end.End.{End}
+use Rattle.vm_tree.specs.declared.end.End.{End}
 use Rattle.vm_space.specs.declared.place.Place.{Place}
 use Rattle.vm_space.specs.declared.search.Search.{Search}
 use Rattle.vm_space.specs.declared.fit.Fitting.{Fitting}

@@ -5,8 +5,8 @@ use Rattle.vm_leaf.specs.declared.block.Block.{Block}
 use Rattle.vm_leaf.specs.Block.{held_block}
 use Rattle.vm_leaf.specs.Blocks.{nth, freed_between}
 use Rattle.vm_leaf.specs.Entries.{blocks_entry}
-use Rattle.vm_btree.specs.Edits.{IsRefused}
-use Rattle.vm_btree.specs.Subtree.{Subtree}
+use Rattle.vm_tree.specs.Edits.{IsRefused}
+use Rattle.vm_tree.specs.Subtree.{Subtree}
 use Rattle.vm_space.specs.Leaves.{blocks_of, HaveBlocks, IsInLeaf}
 use Rattle.vm_space.specs.declared.free.Freeing.{Freeing}
 use Rattle.vm_space.specs.declared.free.Freeing.TheVariants.{Absent, AtEdge, Done}

@@ -10,8 +10,8 @@ use Rattle.vm_leaf.specs.Windows.{IsFirstFitIn, IsLastFitIn}
 use Rattle.vm_leaf.specs.declared.leaf.Fit.{Fit}
 use Rattle.vm_space.specs.Allocation.{window_of, ListPlace, IsClosestPlace, SettlesIn, AllocatesExact}
 use Rattle.vm_space.specs.declared.place.Place.{Place}
-use Rattle.vm_btree.specs.declared.end.End.{End}
-use Rattle.vm_btree.specs.declared.end.End.TheVariants.{First, Last}
+use Rattle.vm_tree.specs.declared.end.End.{End}
+use Rattle.vm_tree.specs.declared.end.End.TheVariants.{First, Last}
 use Rattle.vm_space.specs.declared.search.Search.{Search}
 use Rattle.vm_space.specs.declared.search.Refusal.{Refusal}
 use Rattle.vm_space.specs.declared.search.Refusal.TheVariants.{NoPlace, Held, PastMax, OutOfMemory, CannotSplit}

@@ -5,7 +5,7 @@ use Rattle.vm_leaf.specs.declared.block.Block.{Block}
 use Rattle.vm_leaf.specs.declared.leaf.TheConstants.{CAPACITY}
 use Rattle.vm_leaf.specs.Block.{blocks_code}
 use Rattle.vm_leaf.specs.Entries.{HasEnough}
-use Rattle.vm_btree.specs.Subtree.{Subtree, AllOf}
+use Rattle.vm_tree.specs.Subtree.{Subtree, AllOf}
 use Rattle.vm_space.specs.Leaves.{blocks_of}
 
 -- The height of a tree, the number of children of each inner node in preorder, and the blocks of each leaf. All leaves are at

@@ -4,7 +4,7 @@ use Rattle.std.specs.List.{filter}
 use Rattle.vm_ranges.specs.Range.{Range}
 use Rattle.vm_leaf.specs.declared.block.Block.{Block}
 use Rattle.vm_leaf.specs.Blocks.{nth}
-use Rattle.vm_btree.specs.Subtree.{Subtree}
+use Rattle.vm_tree.specs.Subtree.{Subtree}
 use Rattle.vm_space.specs.Spaces.{AreSpace}
 use Rattle.vm_space.specs.declared.walk.Span.{Span}
 

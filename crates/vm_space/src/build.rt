@@ -10,9 +10,9 @@ ghost use Rattle.vm_ranges.specs.Address.{AreInOrder};
 
 use std::alloc::{AllocError, Global};
 use std::marker::Model;
-use vm_btree::{Source, Tree};
 use vm_leaf::{Block, CAPACITY, Leaf};
 use vm_ranges::{NodeState, RangeInclusive};
+use vm_tree::{Source, Tree};
 
 /// Returns the free block from `start` to `end`. The caller proves that these are the ends of a range.
 fn free_between(start: u64, end: u64) -> Block

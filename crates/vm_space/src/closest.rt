@@ -1,7 +1,7 @@
 //! The allocation of the lowest or of the highest place, as a search of a tree.
 ghost use Rattle.std.specs.Prelude.{◌≡◌, ◌≢◌, ◌+◌, ◌-◌, ◌≤◌, min, List, Err, OnErr};
 ghost use Rattle.vm_ranges.specs.Range.{MAX};
-ghost use Rattle.vm_btree.specs.Sought.{nodes};
+ghost use Rattle.vm_tree.specs.Sought.{nodes};
 ghost use Rattle.vm_space.specs.Allocation.{window_of, IsSearch, AllocatesFit};
 ghost use Rattle.vm_space.specs.NodeCounts.{IsSearchCount};
 ghost use Rattle.vm_space.specs.Shape.{blocks};
@@ -12,8 +12,8 @@ ghost use Rattle.vm_space.specs.Fitting.{RefusesClosest, EditsClosest, SplitsClo
 use crate::fit::{Fitting, fit_in_leaf, split_fit};
 use crate::search::{Refusal, Search, Taken};
 use std::alloc::{AllocError, Global};
-use vm_btree::{Change, End, Entry, Seek, Tree};
 use vm_leaf::Leaf;
+use vm_tree::{Change, End, Entry, Seek, Tree};
 
 /// The allocation of the place of a search that is closest to an end.
 #[derive(Drop)]

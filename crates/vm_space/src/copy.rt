@@ -5,8 +5,8 @@ ghost use Rattle.vm_space.specs.Shape.{blocks};
 ghost use Rattle.vm_space.specs.Spaces.{AreSpace};
 
 use std::alloc::AllocError;
-use vm_btree::Tree;
 use vm_leaf::{BlockStart, Leaf};
+use vm_tree::Tree;
 
 /// Appends the starts of the blocks of a leaf to a list, or returns an error if an allocation fails.
 fn append_leaf(leaf: &Leaf, list: &mut Vec<BlockStart>) -> Result<(), AllocError>

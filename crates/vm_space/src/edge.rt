@@ -1,14 +1,14 @@
 //! A held block at an end of its leaf, and the gap beside it in the next leaf.
 ghost use Rattle.std.specs.Prelude.{◌≡◌, ◌⊎◌, ◌+◌, ◌-◌, ◌<◌, ◌≤◌, length, true, false, MatchOption};
 ghost use Rattle.vm_ranges.specs.declared.state.NodeState.TheVariants.{Allocated};
-ghost use Rattle.vm_btree.specs.declared.end.End.TheVariants.{First, Last};
+ghost use Rattle.vm_tree.specs.declared.end.End.TheVariants.{First, Last};
 ghost use Rattle.vm_leaf.specs.Blocks.{nth};
 ghost use Rattle.vm_space.specs.Edges.{end_if, start_if, ExtendsLast, ExtendsFirst, Extends, DropsFirst, DropsLast, Drops, FreesEnd, IsShorter, BecomesOne, IsEdgeOf, RefusesExtension, RefusesEnd};
 ghost use Rattle.vm_leaf.specs.declared.leaf.TheConstants.{MIN_BLOCKS};
 
-use vm_btree::{Cut, Cutting, End, Entry};
 use vm_leaf::{Block, Leaf, MIN_BLOCKS};
 use vm_ranges::NodeState;
+use vm_tree::{Cut, Cutting, End, Entry};
 
 /// A held block at an end of its leaf.
 #[derive(Clone, Copy)]

@@ -7,9 +7,9 @@ ghost use Rattle.vm_space.specs.Placing.{IsStartIn, RefusesIn, FindsExactPlace};
 use crate::place::{Place, has_room, refusal_of};
 use crate::search::{Refusal, Search, Taken};
 use std::alloc::{AllocError, Global};
-use vm_btree::{Change, Edit, Entry};
 use vm_leaf::{Block, Leaf, Rest};
 use vm_ranges::{NodeState, RangeInclusive};
+use vm_tree::{Change, Edit, Entry};
 
 /// Returns the reason why the range of a search cannot be allocated in the block that contains its start.
 /// Returns `None` if the range lies in a gap and in the window.

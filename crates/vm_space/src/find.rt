@@ -5,8 +5,8 @@ ghost use Rattle.vm_space.specs.Lookups.{find_superset, IsLeafAt};
 ghost use Rattle.vm_space.specs.Shape.{blocks};
 ghost use Rattle.vm_space.specs.Spaces.{AreSpace};
 
-use vm_btree::Tree;
 use vm_leaf::{Block, Leaf};
+use vm_tree::Tree;
 
 /// Returns the leaf whose blocks contain an address. Below all blocks this is the first leaf, and
 /// above all blocks the last one. It follows one path from the root.

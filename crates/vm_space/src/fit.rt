@@ -8,9 +8,9 @@ ghost use Rattle.vm_space.specs.Fitting.{SettlesFit, FitsLeaf, CanSplit};
 use crate::place::{Place, has_room, refusal_of};
 use crate::search::{Refusal, Search, Taken};
 use std::alloc::{AllocError, Global};
-use vm_btree::End;
 use vm_leaf::{Block, CAPACITY, Fit, Leaf, MIN_BLOCKS};
 use vm_ranges::{NodeState, RangeInclusive};
+use vm_tree::End;
 
 /// Returns the fit of a search that is closest to an end of a leaf, or `None` if there is none.
 #[inline(always)]

@@ -9,15 +9,15 @@ ghost use Rattle.vm_leaf.specs.declared.block.Block.{Block as ABlock};
 ghost use Rattle.vm_leaf.specs.Block.{held_block};
 ghost use Rattle.vm_leaf.specs.Blocks.{nth, start_of, end_of};
 ghost use Rattle.vm_leaf.specs.Entries.{HasEnough};
-ghost use Rattle.vm_btree.specs.Subtree.{AllOf};
+ghost use Rattle.vm_tree.specs.Subtree.{AllOf};
 ghost use Rattle.vm_space.specs.Spaces.{AreSpace};
 ghost use Rattle.vm_space.specs.Frees.{FreesLeaves, RefusesFree, RefusesInside, DoneInside, CutAfter, IsFreed};
 ghost use Rattle.vm_space.specs.Edges.{BecomesOne, IsEdge, IsApart, ExtendedAt};
 
 use crate::edge::{DropEnd, Edge, Extend, FreeEnd, edge_of};
-use vm_btree::{Cut, Cutting, End, Entry, Tree};
 use vm_leaf::{Leaf, MIN_BLOCKS};
 use vm_ranges::{NodeState, RangeInclusive};
+use vm_tree::{Cut, Cutting, End, Entry, Tree};
 
 /// Returns the index of the allocated block of this range. Returns `None` if the leaf does not hold the range.
 #[inline(always)]

@@ -38,5 +38,5 @@ mod walk;
 pub use search::{Refusal, Search, Taken};
 pub use space::Space;
 pub use spare::Spare;
-pub use vm_btree::End;
+pub use vm_tree::End;
 pub use walk::Walk;

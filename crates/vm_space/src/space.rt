@@ -14,8 +14,8 @@ ghost use Rattle.vm_space.specs.Lookups.{find_superset};
 ghost use Rattle.vm_space.specs.Trees.{IsBlockTree, held_blocks};
 ghost use Rattle.vm_space.specs.Spares.{HasSpare};
 ghost use Rattle.vm_space.specs.Walks.{meeting_blocks};
-ghost use Rattle.vm_btree.specs.Subtree.{leaf_of};
-ghost use Rattle.vm_btree.specs.Sought.{nodes};
+ghost use Rattle.vm_tree.specs.Subtree.{leaf_of};
+ghost use Rattle.vm_tree.specs.Sought.{nodes};
 ghost use Rattle.vm_space.specs.NodeCounts.{IsSearchCount};
 ghost use Rattle.vm_space.specs.Shape.{blocks, height_of};
 ghost use Rattle.vm_space.specs.Leaves.{IsInLeaf};
@@ -35,9 +35,9 @@ use crate::walk::Walk;
 use std::alloc::{AllocError, Global};
 use std::fmt::{Debug, Formatter, Write};
 use std::marker::Model;
-use vm_btree::{End, Tree};
 use vm_leaf::{Block, BlockStart, Leaf};
 use vm_ranges::{NodeState, RangeInclusive};
+use vm_tree::{End, Tree};
 
 /// The blocks of a space in a balanced tree.
 #[derive(Drop)]

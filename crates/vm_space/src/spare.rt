@@ -6,9 +6,9 @@ ghost use Rattle.vm_space.specs.Spares.{HasSpare};
 use std::alloc::{AllocError, Global};
 use std::fmt::{Debug, Formatter, Write};
 use std::marker::Model;
-use vm_btree::{Node, reserve_nodes};
 use vm_leaf::{Block, Leaf, MIN_BLOCKS};
 use vm_ranges::{NodeState, RangeInclusive};
+use vm_tree::{Node, reserve_nodes};
 
 /// Memory for the split of a gap: a leaf, and a node for each level of the tree.
 #[derive(Drop)]

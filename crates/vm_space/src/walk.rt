@@ -8,9 +8,9 @@ ghost use Rattle.vm_space.specs.Walks.{meeting_blocks, addresses_of, IsFirstFrom
 
 use crate::find::leaf_at;
 use std::marker::Model;
-use vm_btree::Tree;
 use vm_leaf::{Block, Blocks, Leaf};
 use vm_ranges::RangeInclusive;
+use vm_tree::Tree;
 
 /// The addresses from `start` to `end`. All 2^64 addresses are a span too.
 #[derive(Clone, Copy)]

@@ -20,8 +20,8 @@ use Rattle.vm_ranges.specs.Answer.{SPLIT_LIMIT_MIN_HELD, IsChosen, AllocatesAt, 
 use Rattle.vm_leaf.specs.SpaceBlocks.{held_of, blocks_state, TilesSpace}
 use Rattle.vm_addresses.proofs.Blocks.BlockOrder.{NeedsSplit}
 use Rattle.vm_space.specs.Allocation.{ListPlace, IsPlaceIn, IsClosestPlace, range_at, window_of, HasNoPlace, SettlesAt, IsTakenAt, IsSplitAt, AllocatesFit}
-use Rattle.vm_btree.specs.declared.end.End.{End}
-use Rattle.vm_btree.specs.declared.end.End.TheVariants.{First, Last}
+use Rattle.vm_tree.specs.declared.end.End.{End}
+use Rattle.vm_tree.specs.declared.end.End.TheVariants.{First, Last}
 use Rattle.vm_space.specs.declared.search.Search.{Search}
 use Rattle.vm_space.specs.declared.search.Taken.{Taken}
 use Rattle.vm_space.specs.declared.search.Refusal.{Refusal}

@@ -58,8 +58,8 @@ use Rattle.vm_space.specs.Trees.{held_blocks, one_if_held, IsBlockTree}
 use Rattle.vm_space.specs.Spares.{HasSpare}
 use Rattle.vm_space.specs.Placing.{IsStartIn}
 use Rattle.vm_space.specs.Shape.{Shape, blocks, height_of, node_count}
-use Rattle.vm_btree.specs.declared.end.End.{End}
-use Rattle.vm_btree.specs.declared.end.End.TheVariants.{First, Last}
+use Rattle.vm_tree.specs.declared.end.End.{End}
+use Rattle.vm_tree.specs.declared.end.End.TheVariants.{First, Last}
 use Rattle.vm_space.specs.declared.search.Search.{Search}
 use Rattle.vm_space.specs.declared.search.Taken.{Taken}
 use Rattle.vm_space.specs.declared.search.Refusal.{Refusal}

@@ -7,7 +7,7 @@ use Rattle.vm_leaf.specs.declared.block.Block.{Block}
 use Rattle.vm_leaf.specs.Block.{free_block}
 use Rattle.vm_leaf.specs.Blocks.{Tiles}
 use Rattle.vm_space.specs.Shape.{Shape, blocks}
-use Rattle.vm_btree.specs.Subtree.{leaf_of}
+use Rattle.vm_tree.specs.Subtree.{leaf_of}
 use Rattle.vm_ranges.specs.Address.{IsAddressState}
 use Rattle.vm_addresses.specs.Tree.CountedTrees.{IsCountedTree}
 use Rattle.vm_leaf.specs.SpaceBlocks.{TilesSpace, IsTiling, blocks_of}

@@ -3,9 +3,9 @@ ghost use Rattle.vm_leaf.specs.Entries.{blocks_entry, HasEnough, AreNext, JoinsT
 
 use super::{CAPACITY, Leaf};
 use std::alloc::{AllocError, Global};
-use vm_btree::{CopyLeaf, Entry};
+use vm_tree::{CopyLeaf, Entry};
 
-impl vm_btree::Leaf for Leaf {
+impl vm_tree::Leaf for Leaf {
     ghost entry = { blocks_entry };
 
     ghost enough = { HasEnough };

@@ -6,7 +6,7 @@ ghost use Rattle.vm_list.specs.Puts.{IsPopped};
 use super::KeyedList;
 use crate::chunk::{Chunk, MIN_ENTRIES};
 use crate::id_set::Run;
-use vm_btree::{Cut, Cutting, Entry};
+use vm_tree::{Cut, Cutting, Entry};
 
 /// Takes the lowest id out of a leaf.
 #[derive(Drop)]

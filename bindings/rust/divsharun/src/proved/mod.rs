@@ -18,7 +18,7 @@
 
 pub mod vm_addresses;
 #[allow(dead_code)]
-mod vm_btree;
+mod vm_tree;
 mod vm_commands;
 pub mod vm_devices;
 pub mod vm_ids;

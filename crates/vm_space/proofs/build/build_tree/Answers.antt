@@ -2,8 +2,8 @@
 use Rattle.std.proofs.Common.{◌≡◌, ◌-◌, ◌+◌, ◌/◌, ◌%◌, ◌<◌, ◌≤◌, refl, arith, length, subst, sym, ap, ◌∙◌}
 use Rattle.std.proofs.lemmas.Result.{IfOk-weaker}
 use Rattle.vm_leaf.specs.Entries.{HasEnough}
-use Rattle.vm_btree.specs.Subtree.{leaf_of}
-use Rattle.vm_btree.specs.Building.{IsBuiltTree as IsBuiltOf}
+use Rattle.vm_tree.specs.Subtree.{leaf_of}
+use Rattle.vm_tree.specs.Building.{IsBuiltTree as IsBuiltOf}
 use Rattle.vm_space.specs.Building.{remaining_blocks, shares, IsBuiltTree}
 use Rattle.vm_leaf.specs.SpaceBlocks.{blocks_between}
 use Rattle.vm_space.proofs.Plans.{some_between, fits, fits_more, full, needed, count_is, rest_few, many, there, all_enough, one_leaf, many_leaves}

@@ -1,9 +1,9 @@
 use Rattle.std.proofs.Common.{refl, ◌+◌, ◌-◌, ℕ, sym, subst, arith, ◌∙◌}
 use Rattle.vm_leaf.specs.Entries.{blocks_entry}
-use Rattle.vm_btree.specs.Edits.{IsEdited, IsRefused}
-use Rattle.vm_btree.specs.Shrinks.{Any}
+use Rattle.vm_tree.specs.Edits.{IsEdited, IsRefused}
+use Rattle.vm_tree.specs.Shrinks.{Any}
 use Rattle.vm_space.specs.Edges.{BecomesOne, ExtendsLast, ExtendsFirst, RefusesExtension}
-use Rattle.vm_btree.specs.declared.end.End.TheVariants.{First, Last}
+use Rattle.vm_tree.specs.declared.end.End.TheVariants.{First, Last}
 use Rattle.vm_space.proofs.Spaces.{space_ascends}
 use Rattle.vm_space.proofs.Beside.{first_outward, last_outward, last_below, extended_low, apart_low, apart_at_zero, extended_high, apart_high}
 use Rattle.vm_space.proofs.free.extend_beside.Goals as goal

@@ -1,6 +1,6 @@
 use Rattle.std.proofs.Common.{refl, sym, subst}
 use Rattle.vm_leaf.specs.declared.block.Block.{Block}
-use Rattle.vm_btree.specs.Subtree.{Subtree}
+use Rattle.vm_tree.specs.Subtree.{Subtree}
 use Rattle.vm_space.specs.Edges.{IsApart}
 use Rattle.std.specs.Prelude.{List}
 use Rattle.vm_space.proofs.free.free_at_edge.Goals as goal

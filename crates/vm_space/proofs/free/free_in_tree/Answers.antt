@@ -1,7 +1,7 @@
 use Rattle.std.proofs.Common.{ℕ, refl, subst, sym}
 use Rattle.vm_leaf.specs.Entries.{blocks_entry, AreNext, JoinsTo}
-use Rattle.vm_btree.specs.Shrinks.{MeetsAfter}
-use Rattle.vm_btree.specs.Lowers.{IsTreeCut}
+use Rattle.vm_tree.specs.Shrinks.{MeetsAfter}
+use Rattle.vm_tree.specs.Lowers.{IsTreeCut}
 use Rattle.vm_space.specs.Edges.{BecomesOne}
 use Rattle.vm_space.specs.Frees.{RefusesInside, DoneInside, CutAfter}
 use Rattle.vm_space.specs.declared.free.Freeing.{Freeing}

@@ -2,7 +2,7 @@
 
 //! Iteration over the entries of a list from both ends.
 
-use crate::proved::vm_btree::LeafIter;
+use crate::proved::vm_tree::LeafIter;
 use crate::proved::vm_list::chunk::Chunk;
 use crate::proved::vm_list::Keyed;
 

@@ -5,7 +5,7 @@
 use crate::rattle::Box;
 mod runs;
 
-use crate::proved::vm_btree::{LeafIter, Tree};
+use crate::proved::vm_tree::{LeafIter, Tree};
 use crate::proved::vm_list::chunk::Chunk;
 use crate::proved::vm_list::iter::Iter;
 use crate::proved::vm_list::leaf::{Lower, Put, TakeOut};

@@ -1,110 +1,98 @@
 // Written by bindings/erase from crates/vm_tree/src/build.rt: do not edit.
 
-//! Builds the tree of a space in which some ranges are allocated.
-//!
-//! Each leaf is filled directly, and has nearly the same number of blocks. The number of leaves is
-//! halved at each node, so no rotation is needed.
+//! Builds a tree of leaves, with the minimum height.
 
-use crate::proved::vm_leaf::{Block, Leaf, CAPACITY};
-use crate::proved::vm_ranges::{NodeState, RangeInclusive};
-use crate::proved::vm_tree::link::{fork_link, leaf_link, Link, Node};
+use crate::proved::vm_tree::entries::{Entries, Entry};
+use crate::proved::vm_tree::leaf::Leaf;
+use crate::proved::vm_tree::node::{Kids, Node};
+use crate::proved::vm_tree::slots::{insert_slot, no_slots};
 use crate::rattle::Box;
 use crate::rattle::{AllocError, Global};
 
-/// Returns the free block from `start` to `end`. The caller proves that these are the ends of a range.
-fn free_between(start: u64, end: u64) -> Block {
-    Block {
-        key: RangeInclusive::between(start, end),
-        state: NodeState::Free,
-    }
+/// Leaves, one after the other.
+pub(in crate::proved) trait Source<L: Leaf> {
+    /// Returns the next leaf.
+    fn next_leaf(&mut self, alloc: Global) -> Result<Box<L>, AllocError>;
 }
 
-/// A cursor at the blocks that are not built yet: the gaps and the allocated ranges from `next` to
-/// `end`.
-struct BlockCursor<'a> {
-    next: u128,
-    held: &'a [RangeInclusive],
-    end: u64,
+/// The root of a tree.
+pub(in crate::proved::vm_tree) enum Built<L: Leaf> {
+    Leaf(Box<L>),
+    Node(Box<Node<L>>),
 }
 
-impl BlockCursor<'_> {
-    /// Returns the first address of the next block.
-    fn first_address(&self) -> u64 {
-        self.next as u64
-    }
-
-    /// Returns the next block, and advances.
-    fn take_first(&mut self) -> Block {
-        let start = self.next as u64;
-        let Some((range, others)) = self.held.split_first() else {
-            self.next = u128::from(self.end) + 1;
-            return free_between(start, self.end);
-        };
-        if start < range.start() {
-            self.next = range.start().into();
-            return free_between(start, range.start() - 1);
-        }
-        self.next = u128::from(range.end()) + 1;
-        self.held = others;
-        Block {
-            key: *range,
-            state: NodeState::Allocated,
-        }
-    }
+/// Returns what is stored beside a node.
+fn entry_over<L: Leaf>(node: &Node<L>) -> Entry {
+    node.entries.sum()
 }
 
-/// Returns a leaf of the next `count` blocks.
-fn fill_leaf(count: u64, cursor: &mut BlockCursor<'_>) -> Leaf {
-    let mut leaf = Leaf::single(cursor.take_first());
-    for _filled in 1..count {
-        leaf.push(cursor.take_first());
-    }
-    leaf
-}
-
-/// Builds a tree with this number of leaves. Each leaf has the next `each` blocks, and each of the
-/// first `more` leaves one block more.
-///
-/// It returns an error if an allocation fails. The nodes built so far are freed.
-fn build(
+/// Builds a node over the next `n` leaves.
+fn build_leaves<L: Leaf, S: Source<L>>(
+    n: usize,
+    source: &mut S,
     alloc: Global,
-    leaves: u64,
-    each: u64,
-    more: u64,
-    cursor: &mut BlockCursor<'_>,
-) -> Result<Link, AllocError> {
-    if leaves == 1 {
-        let leaf = fill_leaf(each + more, cursor);
-        return Ok(leaf_link(Box::new(alloc, leaf)?));
+) -> Result<Box<Node<L>>, AllocError> {
+    let mut entries = Entries::empty();
+    let mut slots = no_slots();
+    for i in 0..n {
+        let leaf = source.next_leaf(alloc)?;
+        entries.insert(i, leaf.entry());
+        insert_slot(&mut slots, i, i, leaf);
     }
-    let low = leaves / 2;
-    let low_more = more.min(low);
-    let left = build(alloc, low, each, low_more, cursor)?;
-    let at = cursor.first_address();
-    let right = build(alloc, leaves - low, each, more - low_more, cursor)?;
-    let spare = Node {
-        at: 0,
-        left: Link::Hole,
-        right: Link::Hole,
-    };
-    Ok(fork_link(left, at, Box::new(alloc, spare)?, right))
+    let kids = Kids::Leaves(slots);
+    Ok(Box::new(alloc, Node { entries, kids })?)
 }
 
-/// Builds the tree of a space in which these ranges are allocated. It has `count` blocks, and the
-/// minimum height for its nodes.
-///
-/// It returns an error if an allocation fails. The nodes built so far are freed.
-pub(in crate::proved::vm_tree) fn build_tree(
+/// Builds a node over nodes of the next `n` leaves. Each of these can have up to `below` leaves.
+fn build_nodes<L: Leaf, S: Source<L>>(
+    levels: usize,
+    below: usize,
+    n: usize,
+    source: &mut S,
     alloc: Global,
-    count: u64,
-    space: &RangeInclusive,
-    held: &[RangeInclusive],
-) -> Result<Link, AllocError> {
-    let mut cursor = BlockCursor {
-        next: space.start().into(),
-        held,
-        end: space.end(),
-    };
-    let leaves = (count - 1) / CAPACITY as u64 + 1;
-    build(alloc, leaves, count / leaves, count % leaves, &mut cursor)
+) -> Result<Box<Node<L>>, AllocError> {
+    let mut entries = Entries::empty();
+    let mut slots = no_slots();
+    let mut left = n;
+    let count = (n - 1) / below + 1;
+    for i in 0..count {
+        let part = left / (count - i);
+        let kid = build_node(levels - 1, below / 16, part, source, alloc)?;
+        left -= part;
+        entries.insert(i, entry_over(&kid));
+        insert_slot(&mut slots, i, i, kid);
+    }
+    let kids = Kids::Nodes(slots);
+    Ok(Box::new(alloc, Node { entries, kids })?)
+}
+
+/// Builds a node over the next `n` leaves. Each of its children can have up to `below` leaves.
+fn build_node<L: Leaf, S: Source<L>>(
+    levels: usize,
+    below: usize,
+    n: usize,
+    source: &mut S,
+    alloc: Global,
+) -> Result<Box<Node<L>>, AllocError> {
+    if levels == 0 {
+        return build_leaves(n, source, alloc);
+    }
+    build_nodes(levels, below, n, source, alloc)
+}
+
+/// Builds a tree of the next `n` leaves. No tree of as many leaves is lower.
+pub(in crate::proved::vm_tree) fn build_tree<L: Leaf, S: Source<L>>(
+    n: usize,
+    source: &mut S,
+    alloc: Global,
+) -> Result<Built<L>, AllocError> {
+    if n == 1 {
+        return Ok(Built::Leaf(source.next_leaf(alloc)?));
+    }
+    let (mut levels, mut below) = (0, 1);
+    while below * 16 < n {
+        below *= 16;
+        levels += 1;
+    }
+    Ok(Built::Node(build_node(levels, below, n, source, alloc)?))
 }

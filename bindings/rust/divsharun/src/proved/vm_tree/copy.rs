@@ -1,74 +1,72 @@
 // Written by bindings/erase from crates/vm_tree/src/copy.rt: do not edit.
 
-//! A copy of a tree, and a list of the starts of its blocks.
+//! Copies of trees.
 
-use crate::proved::vm_leaf::{BlockStart, Leaf};
-use crate::proved::vm_tree::link::{Link, Node};
+use crate::proved::vm_tree::entries::FANOUT;
+use crate::proved::vm_tree::leaf::Leaf;
+use crate::proved::vm_tree::node::{Kids, Node};
+use crate::proved::vm_tree::slots::{insert_slot, no_slots};
+use crate::rattle::Box;
 use crate::rattle::{AllocError, Global};
-use crate::rattle::{Box, Vec};
 
-/// Returns a copy of a tree with the same nodes, the same leaves and the same summaries.
-///
-/// It returns an error if an allocation fails. The parts copied so far are freed.
-pub(in crate::proved::vm_tree) fn copy(tree: &Link, alloc: Global) -> Result<Link, AllocError> {
-    match tree {
-        Link::Hole => Ok(Link::Hole),
-        Link::Leaf {
-            longest,
-            alignments,
-            leaf,
-        } => {
-            let leaf: &Leaf = leaf;
-            Ok(Link::Leaf {
-                longest: *longest,
-                alignments: *alignments,
-                leaf: Box::new(alloc, leaf.copy())?,
-            })
-        }
-        Link::Fork {
-            longest,
-            alignments,
-            height,
-            node,
-        } => {
-            let node: &Node = node;
-            let left = copy(&node.left, alloc)?;
-            let right = copy(&node.right, alloc)?;
-            let node = Node {
-                at: node.at,
-                left,
-                right,
-            };
-            Ok(Link::Fork {
-                longest: *longest,
-                alignments: *alignments,
-                height: *height,
-                node: Box::new(alloc, node)?,
-            })
+/// A leaf that can be copied.
+pub(in crate::proved) trait CopyLeaf: Leaf {
+    /// Returns a leaf with the same items.
+    fn try_copy(&self, alloc: Global) -> Result<Box<Self>, AllocError>;
+}
+
+/// Returns copies of leaves.
+fn copy_leaves<L: CopyLeaf>(
+    slots: &[Option<Box<L>>; FANOUT],
+    len: usize,
+    alloc: Global,
+) -> Result<[Option<Box<L>>; FANOUT], AllocError> {
+    let mut to = no_slots();
+    for i in 0..len {
+        match &slots[i] {
+            Some(kid) => {
+                let kid: &L = kid;
+                insert_slot(&mut to, i, i, kid.try_copy(alloc)?);
+            }
+            None => unreachable!(),
         }
     }
+    Ok(to)
 }
 
-/// Appends the starts of the blocks of a leaf to a list, or returns an error if an allocation fails.
-fn append_leaf(leaf: &Leaf, list: &mut Vec<BlockStart>) -> Result<(), AllocError> {
-    leaf.part(0, leaf.len()).append_starts(list)
-}
-
-/// Appends the starts of the blocks of a tree to a list, or returns an error if an allocation fails.
-pub(in crate::proved::vm_tree) fn append_starts(
-    tree: &Link,
-    list: &mut Vec<BlockStart>,
-) -> Result<(), AllocError> {
-    match tree {
-        Link::Hole => Ok(()),
-        Link::Leaf { leaf, .. } => {
-            let leaf: &Leaf = leaf;
-            append_leaf(leaf, list)
+/// Returns copies of nodes.
+fn copy_nodes<L: CopyLeaf>(
+    slots: &[Option<Box<Node<L>>>; FANOUT],
+    len: usize,
+    alloc: Global,
+) -> Result<[Option<Box<Node<L>>>; FANOUT], AllocError> {
+    let mut to = no_slots();
+    for i in 0..len {
+        match &slots[i] {
+            Some(kid) => {
+                let kid: &Node<L> = kid;
+                insert_slot(&mut to, i, i, copy_node(kid, alloc)?);
+            }
+            None => unreachable!(),
         }
-        Link::Fork { node, .. } => {
-            let node: &Node = node;
-            append_starts(&node.left, list)?;
-            append_starts(&node.right, list)
+    }
+    Ok(to)
+}
+
+/// Returns a copy of a node, with the same children in each node.
+pub(in crate::proved::vm_tree) fn copy_node<L: CopyLeaf>(
+    node: &Node<L>,
+    alloc: Global,
+) -> Result<Box<Node<L>>, AllocError> {
+    let entries = node.entries.copy();
+    match &node.kids {
+        Kids::Leaves(slots) => {
+            let kids = Kids::Leaves(copy_leaves(slots, entries.len(), alloc)?);
+            Ok(Box::new(alloc, Node { entries, kids })?)
+        }
+        Kids::Nodes(slots) => {
+            let kids = Kids::Nodes(copy_nodes(slots, entries.len(), alloc)?);
+            Ok(Box::new(alloc, Node { entries, kids })?)
         }
     }
 }

@@ -1,32 +1,29 @@
 // Written by bindings/erase from crates/vm_tree/src/find.rt: do not edit.
 
-//! The leaf and the block at an address.
+//! The leaf to which a key belongs.
 
-use crate::proved::vm_leaf::{Block, Leaf};
-use crate::proved::vm_tree::link::{Link, Node};
+use crate::proved::vm_tree::entries::FANOUT;
+use crate::proved::vm_tree::leaf::Leaf;
+use crate::proved::vm_tree::node::{Kids, Node};
+use crate::rattle::Box;
 
-/// Returns the leaf whose blocks contain an address. Below all blocks this is the first leaf, and
-/// above all blocks the last one. It follows one path from the root.
-pub(in crate::proved::vm_tree) fn leaf_at(tree: &Link, address: u64) -> &Leaf {
-    match tree {
-        // A hole is filled before the call returns.
-        Link::Hole => unreachable!(),
-        Link::Leaf { leaf, .. } => leaf,
-        Link::Fork { node, .. } => {
-            let node: &Node = node;
-            if address < node.at {
-                return leaf_at(&node.left, address);
-            }
-            leaf_at(&node.right, address)
+/// Returns the child in a slot.
+#[inline(always)]
+pub(in crate::proved::vm_tree) fn kid_in<C>(slots: &[Option<Box<C>>; FANOUT], i: usize) -> &C {
+    match &slots[i] {
+        Some(kid) => {
+            let kid: &C = kid;
+            kid
         }
+        None => unreachable!(),
     }
 }
 
-/// Returns the block that contains an address, or `None` if there is no such block.
-pub(in crate::proved::vm_tree) fn block_at(tree: &Link, address: u64) -> Option<Block> {
-    let leaf = leaf_at(tree, address);
-    if address < leaf.start() || leaf.end() < address {
-        return None;
+/// Returns the leaf to which a key belongs, below a node.
+pub(in crate::proved::vm_tree) fn find_at<L: Leaf>(node: &Node<L>, key: u64) -> &L {
+    let i = node.entries.index_of(key);
+    match &node.kids {
+        Kids::Leaves(slots) => kid_in(slots, i),
+        Kids::Nodes(slots) => find_at(kid_in(slots, i), key),
     }
-    Some(leaf.block_at(leaf.index_of(address)))
 }

@@ -1,54 +1,30 @@
 // Written by bindings/erase from crates/vm_tree/src/search.rt: do not edit.
 
-//! A search for a place, and its results.
+//! What a tree asks of a search for a leaf.
 
-use crate::proved::vm_ranges::RangeInclusive;
-use crate::proved::vm_tree::change::Change;
-use crate::rattle::AllocError;
+use crate::proved::vm_tree::end::End;
+use crate::proved::vm_tree::entries::Entry;
+use crate::proved::vm_tree::leaf::{Change, Leaf};
+use crate::rattle::Box;
+use crate::rattle::{AllocError, Global};
 
-/// A search for a place: `size` addresses at a multiple of `alignment`, between `low` and `high`.
-#[derive(Clone, Copy)]
-pub(in crate::proved) struct Search {
-    /// The number of addresses, which is not 0.
-    pub(in crate::proved) size: u64,
-    /// One of the 64 powers of two.
-    pub(in crate::proved) alignment: u64,
-    /// The lowest address that the range can have.
-    pub(in crate::proved) low: u64,
-    /// The highest address that the range can have.
-    pub(in crate::proved) high: u64,
-    /// `false` if only ranges that fill their gaps can be allocated.
-    pub(in crate::proved) can_split: bool,
-}
+/// A search for the leaf that has the place closest to an end, and a change of this leaf.
+pub(in crate::proved) trait Seek<L: Leaf> {
+    /// Returns the end to which the place is closest.
+    fn end(&self) -> End;
 
-/// A range that was allocated.
-#[derive(Clone, Copy)]
-pub(in crate::proved) struct Taken {
-    /// The change of the summary of the subtree. It is the first field, so that a copy of the others is
-    /// one piece.
-    pub(in crate::proved::vm_tree) change: Change,
-    /// The number of blocks that the tree has more than before: 0, 1 or 2.
-    pub(in crate::proved) added: u8,
-    pub(in crate::proved) range: RangeInclusive,
-}
+    /// Returns the lowest address of the window.
+    fn low(&self) -> u64;
 
-/// The reason why no range was allocated.
-#[derive(Clone, Copy)]
-pub(in crate::proved) enum Refusal {
-    /// The range does not fit anywhere, or is not free.
-    NoPlace,
-    /// Exactly this range is already allocated.
-    Held,
-    /// The range would end at `u64::MAX`.
-    PastMax,
-    /// An allocation of memory failed, with this error.
-    OutOfMemory(AllocError),
-    /// The range does not fill its gap, and gaps cannot be split.
-    CannotSplit,
-}
+    /// Returns the highest address of the window.
+    fn high(&self) -> u64;
 
-impl From<AllocError> for Refusal {
-    fn from(error: AllocError) -> Refusal {
-        Refusal::OutOfMemory(error)
-    }
+    /// Returns true if the summary of leaves does not exclude a place.
+    fn fits(&self, entry: &Entry) -> bool;
+
+    /// Changes the leaf, beside which `was` is stored, if it has a place. Returns `None` if it has none.
+    fn seek(&mut self, leaf: &mut L, was: Entry) -> Option<Change>;
+
+    /// Changes a leaf that has no room: its upper part is moved to another leaf. An error does not change the leaf.
+    fn split(&mut self, leaf: &mut L, alloc: Global) -> Result<Box<L>, AllocError>;
 }

@@ -42,8 +42,11 @@ granted c = c.allocate_with.ensures.grants (length (state_of c.free.new.self).he
 fewer : (c : goal.After-allocate_with) → length (state_of c.free.new.self).held ≤ length (state_of c.args.self.now).held
 fewer c =
     let old = state_of c.args.self.now in
-    omega (arith, ap (λ (v : AddressState). length v.held) (freed c),
-    length_without c.args.key.now old.held (held_contains old.held c.args.key.now c.requires.held))
+    omega (
+      arith,
+      ap (λ (v : AddressState). length v.held) (freed c),
+      length_without c.args.key.now old.held (held_contains old.held c.args.key.now c.requires.held),
+    )
 
 pub unreachable-requires : goal.unreachable-requires
 unreachable-requires c =

@@ -1,6 +1,6 @@
 -- The entry with the key is in one leaf. The prover does not read the leaf from the tree.
 use Rattle.std.proofs.Common.{List, ◌∙◌, ap, sym, subst}
-use Rattle.vm_btree.specs.Subtree.{Subtree}
+use Rattle.vm_tree.specs.Subtree.{Subtree}
 use Rattle.vm_list.specs.Entries.{IsDescendingBy, entry_at, without}
 use Rattle.vm_list.specs.Leaves.{items_of}
 use Rattle.vm_list.proofs.EntryLaws.{taken_descends}

@@ -1,6 +1,6 @@
 use Rattle.std.proofs.Common.{arith, Err, ◌≡◌, List, sym, subst}
 use Rattle.vm_leaf.specs.declared.block.Block.{Block}
-use Rattle.vm_btree.specs.Subtree.{Subtree}
+use Rattle.vm_tree.specs.Subtree.{Subtree}
 use Rattle.vm_space.specs.Shape.{blocks}
 use Rattle.vm_space.specs.Allocation.{AllocatesExact}
 use Rattle.vm_space.specs.Spares.{HasSpare}

@@ -1,7 +1,7 @@
 use Rattle.std.specs.Prelude.{MatchOption}
 use Rattle.std.proofs.Common.{◌≡◌, ◌+◌, List, length, refl, sym, subst, ◌∙◌}
 use Rattle.vm_leaf.specs.declared.block.Block.{Block}
-use Rattle.vm_btree.specs.Subtree.{Subtree}
+use Rattle.vm_tree.specs.Subtree.{Subtree}
 use Rattle.vm_space.specs.Leaves.{IsInLeaf}
 use Rattle.vm_space.specs.Shape.{blocks}
 use Rattle.vm_space.specs.Frees.{FreesBlock, Holds}

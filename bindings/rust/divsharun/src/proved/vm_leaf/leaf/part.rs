@@ -3,11 +3,11 @@
 //! A leaf of blocks as a leaf of a tree.
 
 use super::{Leaf, CAPACITY};
-use crate::proved::vm_btree::{CopyLeaf, Entry};
+use crate::proved::vm_tree::{CopyLeaf, Entry};
 use crate::rattle::Box;
 use crate::rattle::{AllocError, Global};
 
-impl crate::proved::vm_btree::Leaf for Leaf {
+impl crate::proved::vm_tree::Leaf for Leaf {
     /// Returns the first address, and the summary of the gaps.
     fn entry(&self) -> Entry {
         let sum = self.summary();

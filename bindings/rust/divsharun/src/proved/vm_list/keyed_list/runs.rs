@@ -3,7 +3,7 @@
 //! The runs of ids of a list.
 
 use super::KeyedList;
-use crate::proved::vm_btree::{Cut, Cutting, Entry};
+use crate::proved::vm_tree::{Cut, Cutting, Entry};
 use crate::proved::vm_list::chunk::{Chunk, MIN_ENTRIES};
 use crate::proved::vm_list::id_set::Run;
 

@@ -1,6 +1,6 @@
 -- The lowest id is in the leaf of the key 0. The prover does not read the leaf from the tree.
 use Rattle.std.proofs.Common.{List, sym, ◌∙◌, ap, subst}
-use Rattle.vm_btree.specs.Subtree.{Subtree}
+use Rattle.vm_tree.specs.Subtree.{Subtree}
 use Rattle.vm_list.specs.declared.id_set.Run.{Run}
 use Rattle.vm_list.specs.Leaves.{items_of}
 use Rattle.vm_list.specs.Runs.{last_of, TakesLowest}

@@ -1,0 +1,204 @@
+// Written by bindings/erase from crates/vm_tree/src/cut.rt: do not edit.
+
+//! A change of one leaf that leaves it fewer items, and what it changes above it.
+
+use crate::proved::vm_tree::entries::{Entries, Entry, FANOUT};
+use crate::proved::vm_tree::grow::is_same;
+use crate::proved::vm_tree::leaf::Leaf;
+use crate::proved::vm_tree::mend::{mend_leaves, mend_nodes};
+use crate::proved::vm_tree::node::{Kids, Node};
+use crate::rattle::Box;
+
+/// What a change did to a leaf.
+pub(in crate::proved) enum Cutting {
+    /// It refused, and the leaf is as before.
+    Refused,
+    /// It changed the leaf, but not what is stored beside it.
+    Same,
+    /// It changed the leaf.
+    Changed,
+    /// It changed the leaf, which may have too few items.
+    Small,
+}
+
+/// A change of one leaf that leaves it fewer items.
+pub(in crate::proved) trait Cut<L: Leaf> {
+    /// Changes a leaf, beside which `was` is stored.
+    fn cut(&mut self, leaf: &mut L, was: Entry) -> Cutting;
+}
+
+/// What a change did to a child.
+#[derive(Clone, Copy)]
+pub(in crate::proved::vm_tree) enum Shrunk {
+    /// The leaf refused. Nothing was changed.
+    Refused,
+    /// What is stored beside the child is as before.
+    Same,
+    /// The child has this entry now.
+    Changed(Entry),
+    /// The child has this entry now, and may be too small.
+    Small(Entry),
+}
+
+/// Changes a leaf.
+pub(in crate::proved::vm_tree) fn cut_leaf<L: Leaf, E: Cut<L>>(
+    leaf: &mut L,
+    was: Entry,
+    edit: &mut E,
+) -> Shrunk {
+    match edit.cut(leaf, was) {
+        Cutting::Refused => Shrunk::Refused,
+        Cutting::Same => Shrunk::Same,
+        Cutting::Changed => Shrunk::Changed(leaf.entry()),
+        Cutting::Small => Shrunk::Small(leaf.entry()),
+    }
+}
+
+/// Changes a leaf that is a root.
+pub(in crate::proved::vm_tree) fn cut_root<L: Leaf, E: Cut<L>>(
+    leaf: &mut L,
+    edit: &mut E,
+) -> Shrunk {
+    let was = leaf.entry();
+    cut_leaf(leaf, was, edit)
+}
+
+/// Returns `Same` if the entry of a child is as before.
+fn quiet(outcome: Shrunk, was: Entry) -> Shrunk {
+    match outcome {
+        Shrunk::Refused => Shrunk::Refused,
+        Shrunk::Same => Shrunk::Same,
+        Shrunk::Changed(entry) => {
+            if is_same(&entry, &was) {
+                return Shrunk::Same;
+            }
+            Shrunk::Changed(entry)
+        }
+        Shrunk::Small(entry) => Shrunk::Small(entry),
+    }
+}
+
+/// Changes the child `i`, a leaf.
+fn cut_leaf_at<L: Leaf, E: Cut<L>>(
+    slots: &mut [Option<Box<L>>; FANOUT],
+    i: usize,
+    was: Entry,
+    edit: &mut E,
+    count: &mut u64,
+) -> Shrunk {
+    match &mut slots[i] {
+        Some(kid) => {
+            let leaf: &mut L = kid;
+            *count = count.saturating_add(1);
+            let outcome = cut_leaf(leaf, was, edit);
+            quiet(outcome, was)
+        }
+        None => unreachable!(),
+    }
+}
+
+/// Returns the first of the two neighbours that child `i` is joined with: that below it, if there is one.
+fn neighbour(i: usize) -> usize {
+    if i > 0 {
+        i - 1
+    } else {
+        0
+    }
+}
+
+/// The minimum number of children of a node that is no root.
+const MIN_CHILDREN: usize = 5;
+
+/// Returns what became of a node that has these entries.
+fn small_of(entries: &Entries) -> Shrunk {
+    let sum = entries.sum();
+    if entries.len() < MIN_CHILDREN {
+        return Shrunk::Small(sum);
+    }
+    Shrunk::Changed(sum)
+}
+
+/// Changes the child `i` of a node, a leaf.
+fn cut_leaves<L: Leaf, E: Cut<L>>(
+    entries: &mut Entries,
+    slots: &mut [Option<Box<L>>; FANOUT],
+    i: usize,
+    key: u64,
+    edit: &mut E,
+    count: &mut u64,
+) -> Shrunk {
+    let was = entries.entry(i);
+    match cut_leaf_at(slots, i, was, edit, count) {
+        Shrunk::Refused => Shrunk::Refused,
+        Shrunk::Same => Shrunk::Same,
+        Shrunk::Changed(entry) => {
+            entries.set_entry(i, entry);
+            Shrunk::Changed(entries.sum())
+        }
+        Shrunk::Small(entry) => {
+            entries.set_entry(i, entry);
+            mend_leaves(entries, slots, neighbour(i));
+            small_of(entries)
+        }
+    }
+}
+
+/// Changes the child `i`, a node.
+fn cut_node_at<L: Leaf, E: Cut<L>>(
+    slots: &mut [Option<Box<Node<L>>>; FANOUT],
+    i: usize,
+    was: Entry,
+    key: u64,
+    edit: &mut E,
+    count: &mut u64,
+) -> Shrunk {
+    match &mut slots[i] {
+        Some(kid) => {
+            let kid: &mut Node<L> = kid;
+            let outcome = cut_at(kid, key, edit, count);
+            quiet(outcome, was)
+        }
+        None => unreachable!(),
+    }
+}
+
+/// Changes the child `i` of a node, a node.
+fn cut_nodes<L: Leaf, E: Cut<L>>(
+    entries: &mut Entries,
+    slots: &mut [Option<Box<Node<L>>>; FANOUT],
+    i: usize,
+    key: u64,
+    edit: &mut E,
+    count: &mut u64,
+) -> Shrunk {
+    let was = entries.entry(i);
+    match cut_node_at(slots, i, was, key, edit, count) {
+        Shrunk::Refused => Shrunk::Refused,
+        Shrunk::Same => Shrunk::Same,
+        Shrunk::Changed(entry) => {
+            entries.set_entry(i, entry);
+            Shrunk::Changed(entries.sum())
+        }
+        Shrunk::Small(entry) => {
+            entries.set_entry(i, entry);
+            mend_nodes(entries, slots, neighbour(i));
+            small_of(entries)
+        }
+    }
+}
+
+/// Changes the leaf to which a key belongs, below a node with at least two children. Children that become too
+/// small are joined with a neighbour.
+pub(in crate::proved::vm_tree) fn cut_at<L: Leaf, E: Cut<L>>(
+    node: &mut Node<L>,
+    key: u64,
+    edit: &mut E,
+    count: &mut u64,
+) -> Shrunk {
+    *count = count.saturating_add(1);
+    let i = node.entries.index_of(key);
+    match &mut node.kids {
+        Kids::Leaves(slots) => cut_leaves(&mut node.entries, slots, i, key, edit, count),
+        Kids::Nodes(slots) => cut_nodes(&mut node.entries, slots, i, key, edit, count),
+    }
+}

@@ -1,0 +1,101 @@
+// Written by bindings/erase from crates/vm_tree/src/grow.rt: do not edit.
+
+//! A child is added to a node, which is split if it is full.
+
+use crate::proved::vm_tree::entries::{Entries, Entry, FANOUT};
+use crate::proved::vm_tree::outcome::{Halves, Outcome, Settled, Upper};
+use crate::proved::vm_tree::slots::{insert_slot, no_slots, split_slots};
+use crate::rattle::Box;
+
+/// The children that are left in a node that is split.
+const HALF: usize = 8;
+
+/// Inserts a child at the index `i`. Returns true if the node was full: then its upper half is moved to
+/// `upper` and `upper_slots`.
+fn add_child<C>(
+    entries: &mut Entries,
+    slots: &mut [Option<Box<C>>; FANOUT],
+    i: usize,
+    entry: Entry,
+    child: Box<C>,
+    upper: &mut Entries,
+    upper_slots: &mut [Option<Box<C>>; FANOUT],
+) -> bool {
+    let len = entries.len();
+    if len < FANOUT {
+        entries.insert(i, entry);
+        insert_slot(slots, len, i, child);
+        return false;
+    }
+    entries.split_off(HALF, upper);
+    split_slots(slots, len, HALF, upper_slots);
+    if i <= HALF {
+        entries.insert(i, entry);
+        insert_slot(slots, HALF, i, child);
+    } else {
+        upper.insert(i - HALF, entry);
+        insert_slot(upper_slots, HALF, i - HALF, child);
+    }
+    true
+}
+
+/// Inserts a child at the index `i`. If the node is full, then the upper half of the children is returned.
+fn grow<C>(
+    entries: &mut Entries,
+    slots: &mut [Option<Box<C>>; FANOUT],
+    i: usize,
+    entry: Entry,
+    child: Box<C>,
+) -> Settled<C> {
+    let mut upper = Entries::empty();
+    let mut upper_slots = no_slots();
+    if add_child(
+        entries,
+        slots,
+        i,
+        entry,
+        child,
+        &mut upper,
+        &mut upper_slots,
+    ) {
+        Settled::Split(Upper {
+            low: entries.sum(),
+            high: upper.sum(),
+            entries: upper,
+            slots: upper_slots,
+        })
+    } else {
+        Settled::Changed(entries.sum())
+    }
+}
+
+/// Returns true if two entries are equal.
+#[inline(always)]
+pub(in crate::proved::vm_tree) fn is_same(a: &Entry, b: &Entry) -> bool {
+    a.at == b.at && a.longest == b.longest && a.alignments == b.alignments
+}
+
+/// Writes what was done with the child `i` into the node above it.
+pub(in crate::proved::vm_tree) fn settle<C>(
+    entries: &mut Entries,
+    slots: &mut [Option<Box<C>>; FANOUT],
+    i: usize,
+    outcome: Outcome<C>,
+) -> Settled<C> {
+    match outcome {
+        Outcome::Refused => Settled::Refused,
+        Outcome::Same => Settled::Same,
+        Outcome::Changed(entry) => {
+            if is_same(&entries.entry(i), &entry) {
+                return Settled::Same;
+            }
+            entries.set_entry(i, entry);
+            Settled::Changed(entries.sum())
+        }
+        Outcome::Split(halves) => {
+            let Halves { low, high, upper } = halves;
+            entries.set_entry(i, low);
+            grow(entries, slots, i + 1, high, upper)
+        }
+    }
+}

@@ -1,6 +1,0 @@
-use Rattle.vm_btree.specs.Nodes.{leaf_tree}
-use Rattle.vm_btree.specs.Copies.{AreCopies}
-use Rattle.vm_btree.proofs.copy.copy_leaves.Given as goal
-
-abbrev pub invariant-loop-i : goal.invariant-loop-i
-invariant-loop-i g l = AreCopies leaf_tree l.i l.slots l.to

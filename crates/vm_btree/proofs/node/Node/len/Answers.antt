@@ -1,9 +1,0 @@
-use Rattle.std.proofs.Common.{subst}
-use Rattle.vm_btree.specs.HasKids.{HasKids}
-use Rattle.vm_btree.proofs.Sums.{has_kids}
-use Rattle.vm_btree.proofs.node.Node.len.Goals as goal
-
-pub returns-clause-kids : goal.returns-clause-kids
-returns-clause-kids g c =
-    subst (HasKids g.L.Leaf.enough c.len.result) c.self.view_is
-    (has_kids g.L.Leaf.entry g.L.Leaf.enough c.len.result c.self.inside.kids c.self.inside.entries c.self.invariant c.len.ensures.value)

@@ -1,8 +1,0 @@
-use Rattle.std.proofs.Common.{lit<}
-use Rattle.vm_btree.proofs.tree.leaf_root.Goals as goal
-
-pub array_drop-deref_mut-requires : goal.array_drop-deref_mut-requires
-array_drop-deref_mut-requires g c = lit< tt
-
-pub array_drop-requires : goal.array_drop-requires
-array_drop-requires g c = lit< tt

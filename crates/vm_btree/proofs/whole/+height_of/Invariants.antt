@@ -1,4 +1,0 @@
-use Rattle.vm_btree.proofs.whole.+height_of.Given as goal
-
-abbrev pub decreases-height_of : goal.decreases-height_of
-decreases-height_of g l = goal.size-height_of g l

@@ -1,0 +1,37 @@
+-- A child whose entry is as before.
+use Rattle.std.proofs.Common.{◌≡◌, ℕ, List, ◌∙◌, sym, refl, subst}
+use Rattle.vm_tree.specs.Entry.{Entry}
+use Rattle.vm_tree.specs.Subtree.{Subtree, nth_tree, entry_of}
+use Rattle.vm_tree.specs.Shrinks.{Shrank, ShrankAt, IsQuiet}
+use Rattle.vm_tree.specs.declared.cut.Shrunk.{Shrunk}
+use Rattle.vm_tree.specs.declared.cut.Shrunk.TheVariants as shrunk
+
+module _ {X : Type 0} (entry : X → Entry) (enough : X → Type 0) (joins : X → X → List X → Type 0) (key : ℕ) (refuses : X → Type 0) (edits : X → List X → Type 0) where
+  quieted : (was : Entry) (s t : Subtree X) (o r : Shrunk) → was ≡ entry_of entry s → IsQuiet was o r → Shrank entry enough joins key refuses edits s t o
+      → Shrank entry enough joins key refuses edits s t r
+  quieted was s t shrunk.Refused shrunk.Refused w q g = g
+  quieted was s t shrunk.Refused shrunk.Same w q g = absurd q
+  quieted was s t shrunk.Refused (shrunk.Changed d) w q g = absurd q
+  quieted was s t shrunk.Refused (shrunk.Small d) w q g = absurd q
+  quieted was s t shrunk.Same shrunk.Refused w q g = absurd q
+  quieted was s t shrunk.Same shrunk.Same w q g = g
+  quieted was s t shrunk.Same (shrunk.Changed d) w q g = absurd q
+  quieted was s t shrunk.Same (shrunk.Small d) w q g = absurd q
+  quieted was s t (shrunk.Changed e) shrunk.Refused w q g = absurd q
+  quieted was s t (shrunk.Changed e) shrunk.Same w q g = record { one = g.one; sum = sym g.sum ∙ q ∙ w; full = g.full }
+  quieted was s t (shrunk.Changed e) (shrunk.Changed d) w q g = record { one = g.one; sum = q ∙ g.sum; full = g.full }
+  quieted was s t (shrunk.Changed e) (shrunk.Small d) w q g = absurd q
+  quieted was s t (shrunk.Small e) shrunk.Refused w q g = absurd q
+  quieted was s t (shrunk.Small e) shrunk.Same w q g = absurd q
+  quieted was s t (shrunk.Small e) (shrunk.Changed d) w q g = absurd q
+  quieted was s t (shrunk.Small e) (shrunk.Small d) w q g = record { one = g.one; sum = q ∙ g.sum }
+
+  pub quiet_at : (was : Entry) (i : ℕ) (ss ts : List (Subtree X)) (o r : Shrunk) → was ≡ entry_of entry (nth_tree ss i) → IsQuiet was o r
+      → ShrankAt entry enough joins key refuses edits i ss ts o → ShrankAt entry enough joins key refuses edits i ss ts r
+  quiet_at was i ss ts o r w q s = record { new = s.new; list = s.list; shrank = quieted was (nth_tree ss i) s.new o r w q s.shrank }
+
+pub still_small : (was : Entry) (P : Type 0) (o r : Shrunk) → IsQuiet was o r → ((e : Entry) → o ≡ shrunk.Small e → P) → (d : Entry) → r ≡ shrunk.Small d → P
+still_small was P (shrunk.Small e) r q f d h = f e refl
+still_small was P shrunk.Refused r q f d h = absurd (subst (IsQuiet was shrunk.Refused) h q)
+still_small was P shrunk.Same r q f d h = absurd (subst (IsQuiet was shrunk.Same) h q)
+still_small was P (shrunk.Changed e) r q f d h = absurd (subst (IsQuiet was (shrunk.Changed e)) h q)

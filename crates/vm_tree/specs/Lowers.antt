@@ -1,0 +1,38 @@
+-- A root that lost a child.
+use Rattle.std.specs.Prelude.{◌≡◌, ℕ, ◌+◌, ◌≤◌, List, Bool, true, false}
+use Rattle.vm_tree.specs.Entry.{Entry}
+use Rattle.vm_tree.specs.Subtree.{Subtree, kids}
+use Rattle.vm_tree.specs.Edits.{IsRefused}
+use Rattle.vm_tree.specs.Shrinks.{IsShrunk}
+use Rattle.vm_tree.specs.declared.cut.Shrunk.{Shrunk}
+use Rattle.vm_tree.specs.declared.cut.Shrunk.TheVariants as shrunk
+
+-- The node s with its only child in its place, if it has one child.
+pub record IsLowered {X : Type 0} (s t : Subtree X) : Type 0 where
+  pub leaves : t.leaves ≡ s.leaves
+  pub height : t.height ≤ s.height
+  pub lower : s.height ≤ t.height + 1
+  pub same : 2 ≤ kids s → t ≡ s
+
+-- A leaf was changed.
+abbrev pub HasShrunk : Shrunk → Bool
+HasShrunk shrunk.Refused = false
+HasShrunk shrunk.Same = true
+HasShrunk (shrunk.Changed e) = true
+HasShrunk (shrunk.Small e) = true
+
+module _ {X : Type 0} (entry : X → Entry) (joins : X → X → List X → Type 0) (key : ℕ) (refuses : X → Type 0) (edits : X → List X → Type 0) (s t : Subtree X) where
+  pub record IsUncutTree : Type 0 where
+    pub same : t ≡ s
+    pub refused : IsRefused entry key refuses s.leaves
+
+  -- A leaf has changed, and the tree is at most one lower.
+  pub record IsCutTree : Type 0 where
+    pub height : t.height ≤ s.height
+    pub lower : s.height ≤ t.height + 1
+    pub cut : IsShrunk entry joins key edits s.leaves t.leaves
+
+  -- What a call has done: nothing, or a change.
+  abbrev pub IsTreeCut : Bool → Type 0
+  IsTreeCut false = IsUncutTree
+  IsTreeCut true = IsCutTree

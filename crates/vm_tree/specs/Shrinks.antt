@@ -1,0 +1,92 @@
+-- What a change that leaves fewer items did to a subtree.
+use Rattle.std.specs.Prelude.{◌≡◌, ℕ, ◌+◌, ◌≤◌, List, [], ◌∷◌, ◌++◌, length, set}
+use Rattle.vm_tree.specs.Entry.{Entry}
+use Rattle.vm_tree.specs.Rows.{sum_of}
+use Rattle.vm_tree.specs.Subtree.{Subtree, entry_of, nth_tree, kids, IsFull}
+use Rattle.vm_tree.specs.Edits.{IsHome, IsRefused, IsEdited}
+use Rattle.vm_tree.specs.Mends.{IsRegrouped}
+use Rattle.vm_tree.specs.declared.cut.Shrunk.{Shrunk}
+use Rattle.vm_tree.specs.declared.cut.Shrunk.TheVariants as shrunk
+
+-- Nothing is asked.
+abbrev pub Any : {X : Type 0} → X → Type 0
+Any x = Unit {0}
+
+-- Each leaf meets the next one.
+abbrev pub Meet : {X : Type 0} → (X → X → Type 0) → List X → Type 0
+Meet meets [] = Unit {0}
+Meet meets (x ∷ []) = Unit {0}
+Meet meets (x ∷ y ∷ xs) = meets x y × Meet meets (y ∷ xs)
+
+-- What these changes make of the leaf of the key meets its neighbours.
+abbrev pub MeetsAfter : {X : Type 0} → (X → Entry) → (X → X → Type 0) → ℕ → (X → List X → Type 0) → List X → Type 0
+MeetsAfter {X} entry meets key edits old =
+    (before : List X) (leaf : X) (after leaves : List X) → IsHome entry key old before leaf after → edits leaf leaves
+    → Meet meets (before ++ (leaves ++ after))
+
+-- Leaves are joined in this way, and only if S.
+abbrev pub JoinsIf : {X : Type 0} → Type 0 → (X → X → List X → Type 0) → X → X → List X → Type 0
+JoinsIf S joins x y zs = S × joins x y zs
+
+-- A leaf has changed, and then two leaves were joined, or none.
+pub record IsShrunk {X : Type 0} (entry : X → Entry) (joins : X → X → List X → Type 0) (key : ℕ) (edits : X → List X → Type 0) (old new : List X) : Type 0 where
+  pub middle : List X
+  pub edited : IsEdited entry Any key edits old middle
+  pub regrouped : IsRegrouped joins middle new
+
+-- The subtree s became t. It has at most one child less.
+pub record IsCut {X : Type 0} (entry : X → Entry) (joins : X → X → List X → Type 0) (key : ℕ) (edits : X → List X → Type 0) (s t : Subtree X) : Type 0 where
+  pub height : t.height ≡ s.height
+  pub fan : kids s ≤ kids t + 1
+  pub cut : IsShrunk entry joins key edits s.leaves t.leaves
+
+module _ {X : Type 0} (entry : X → Entry) (enough : X → Type 0) (joins : X → X → List X → Type 0) (key : ℕ) (refuses : X → Type 0) (edits : X → List X → Type 0) where
+  -- The leaf refused, and nothing was changed.
+  pub record IsUncut (s t : Subtree X) : Type 0 where
+    pub same : t ≡ s
+    pub refused : IsRefused entry key refuses s.leaves
+
+  -- The entry is as before.
+  pub record IsCutSame (s t : Subtree X) : Type 0 where
+    pub one : IsCut entry joins key edits s t
+    pub sum : entry_of entry t ≡ entry_of entry s
+    pub full : IsFull enough s.height s → IsFull enough s.height t
+
+  pub record IsCutFull (e : Entry) (s t : Subtree X) : Type 0 where
+    pub one : IsCut entry joins key edits s t
+    pub sum : e ≡ entry_of entry t
+    pub full : IsFull enough s.height s → IsFull enough s.height t
+
+  -- The subtree may be too small.
+  pub record IsCutSmall (e : Entry) (s t : Subtree X) : Type 0 where
+    pub one : IsCut entry joins key edits s t
+    pub sum : e ≡ entry_of entry t
+
+  -- The subtree s became t.
+  abbrev pub Shrank : Subtree X → Subtree X → Shrunk → Type 0
+  Shrank s t shrunk.Refused = IsUncut s t
+  Shrank s t shrunk.Same = IsCutSame s t
+  Shrank s t (shrunk.Changed e) = IsCutFull e s t
+  Shrank s t (shrunk.Small e) = IsCutSmall e s t
+
+  -- The child i of ss became another.
+  pub record ShrankAt (i : ℕ) (ss ts : List (Subtree X)) (o : Shrunk) : Type 0 where
+    pub new : Subtree X
+    pub list : ts ≡ set ss i new
+    pub shrank : Shrank (nth_tree ss i) new o
+
+-- The sum of these entries, and whether they are enough for a child.
+abbrev pub IsSumOf : List Entry → Shrunk → Type 0
+IsSumOf es shrunk.Refused = ⊥
+IsSumOf es shrunk.Same = ⊥
+IsSumOf es (shrunk.Changed e) = (5 ≤ length es) × (e ≡ sum_of es)
+IsSumOf es (shrunk.Small e) = e ≡ sum_of es
+
+-- A child whose entry is as before was not changed as seen from above.
+abbrev pub IsQuiet : Entry → Shrunk → Shrunk → Type 0
+IsQuiet was shrunk.Refused shrunk.Refused = Unit {0}
+IsQuiet was shrunk.Same shrunk.Same = Unit {0}
+IsQuiet was (shrunk.Changed e) shrunk.Same = e ≡ was
+IsQuiet was (shrunk.Changed e) (shrunk.Changed d) = d ≡ e
+IsQuiet was (shrunk.Small e) (shrunk.Small d) = d ≡ e
+IsQuiet _ _ _ = ⊥

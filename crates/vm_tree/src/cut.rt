@@ -1,0 +1,276 @@
+//! A change of one leaf that leaves it fewer items, and what it changes above it.
+ghost use Rattle.std.specs.Prelude.{◌≡◌, ◌+◌, ◌*◌, ◌<◌, ◌≤◌, ◌∷◌, [], List, length, map, ℕ, ◌⊎◌};
+ghost use Rattle.vm_tree.specs.Rows.{nth};
+ghost use Rattle.vm_tree.specs.Subtree.{leaf_of, entry_of, nth_tree, kids, over, leaves_of, front, Ascend};
+ghost use Rattle.vm_tree.specs.Sought.{IsCounted};
+ghost use Rattle.vm_tree.specs.Over.{IsOver};
+ghost use Rattle.vm_tree.specs.Slots.{held, IsDense};
+ghost use Rattle.vm_tree.specs.Nodes.{leaf_tree, node_tree};
+ghost use Rattle.vm_tree.specs.Mends.{NoJoin};
+ghost use Rattle.vm_tree.specs.Shrinks.{Shrank, ShrankAt, MeetsAfter, IsSumOf, IsQuiet, JoinsIf};
+ghost use Rattle.vm_tree.specs.Found.{HasKid};
+ghost use Rattle.vm_tree.specs.Entry.{Entry};
+
+use crate::entries::{Entries, Entry, FANOUT};
+use crate::grow::is_same;
+use crate::leaf::Leaf;
+use crate::mend::{mend_leaves, mend_nodes};
+use crate::node::{Kids, Node};
+
+/// What a change did to a leaf.
+pub enum Cutting {
+    /// It refused, and the leaf is as before.
+    Refused,
+    /// It changed the leaf, but not what is stored beside it.
+    Same,
+    /// It changed the leaf.
+    Changed,
+    /// It changed the leaf, which may have too few items.
+    Small,
+}
+
+/// A change of one leaf that leaves it fewer items.
+pub trait Cut<L: Leaf> {
+    ghost refuses: { Self → L → Self → Type 0 };
+
+    ghost edits: { Self → L → Self → List L → Type 0 };
+
+    ghost shrinks: { Self → Type 0 };
+
+    /// Changes a leaf, beside which `was` is stored.
+    fn cut(&mut self, leaf: &mut L, was: Entry) -> Cutting
+        requires { was ≡ L.entry leaf.old }
+        ensures refused { result ≡ Cutting.Refused → (leaf.new ≡ leaf.old) × refuses self.old leaf.old self.new }
+        ensures same { result ≡ Cutting.Same → (L.entry leaf.new ≡ L.entry leaf.old) × edits self.old leaf.old self.new (leaf.new ∷ []) × (L.enough leaf.old → L.enough leaf.new) }
+        ensures changed { result ≡ Cutting.Changed → edits self.old leaf.old self.new (leaf.new ∷ []) × (L.enough leaf.old → L.enough leaf.new) }
+        ensures small { result ≡ Cutting.Small → edits self.old leaf.old self.new (leaf.new ∷ []) × shrinks self.old };
+}
+
+/// What a change did to a child.
+#[derive(Clone, Copy, Drop)]
+pub(crate) enum Shrunk {
+    /// The leaf refused. Nothing was changed.
+    Refused,
+    /// What is stored beside the child is as before.
+    Same,
+    /// The child has this entry now.
+    Changed(Entry),
+    /// The child has this entry now, and may be too small.
+    Small(Entry),
+}
+
+/// Changes a leaf.
+pub(crate) fn cut_leaf<L: Leaf, E: Cut<L>>(leaf: &mut L, was: Entry, edit: &mut E) -> Shrunk
+    requires { was ≡ L.entry leaf.old }
+    ensures shrank { (key : ℕ) → Shrank L.entry L.enough NoJoin key (λ l. E.refuses edit.old l edit.new) (λ l ls. E.edits edit.old l edit.new ls) (leaf_of leaf.old) (leaf_of leaf.new) result }
+    ensures may { (e : Entry) → result ≡ Shrunk.Small e → E.shrinks edit.old }
+{
+    match edit.cut(leaf, was) {
+        Cutting::Refused => Shrunk::Refused,
+        Cutting::Same => Shrunk::Same,
+        Cutting::Changed => Shrunk::Changed(leaf.entry()),
+        Cutting::Small => Shrunk::Small(leaf.entry()),
+    }
+}
+
+/// Changes a leaf that is a root.
+pub(crate) fn cut_root<L: Leaf, E: Cut<L>>(leaf: &mut L, edit: &mut E) -> Shrunk
+    ensures shrank { (key : ℕ) → Shrank L.entry L.enough NoJoin key (λ l. E.refuses edit.old l edit.new) (λ l ls. E.edits edit.old l edit.new ls) (leaf_of leaf.old) (leaf_of leaf.new) result }
+{
+    let was = leaf.entry();
+    cut_leaf(leaf, was, edit)
+}
+
+/// Returns `Same` if the entry of a child is as before.
+fn quiet(outcome: Shrunk, was: Entry) -> Shrunk
+    ensures { IsQuiet was outcome result }
+{
+    match outcome {
+        Shrunk::Refused => Shrunk::Refused,
+        Shrunk::Same => Shrunk::Same,
+        Shrunk::Changed(entry) => {
+            if is_same(&entry, &was) {
+                return Shrunk::Same;
+            }
+            Shrunk::Changed(entry)
+        }
+        Shrunk::Small(entry) => Shrunk::Small(entry),
+    }
+}
+
+/// Changes the child `i`, a leaf.
+#[tactic(auto, using(crate::proofs::Dense::not_empty, crate::proofs::Dense::rewritten_dense))]
+fn cut_leaf_at<L: Leaf, E: Cut<L>>(
+    slots: &mut [Option<Box<L>>; FANOUT],
+    i: usize,
+    was: Entry,
+    edit: &mut E,
+    count: &mut u64,
+) -> Shrunk
+    requires dense { IsDense slots.old }
+    requires within { i < length (held slots.old) }
+    requires was { (l : L) → HasKid slots.old i l → was ≡ L.entry l }
+    ensures dense { IsDense slots.new }
+    ensures shrank { (key : ℕ) → ShrankAt L.entry L.enough NoJoin key (λ l. E.refuses edit.old l edit.new) (λ l ls. E.edits edit.old l edit.new ls) i (map leaf_tree (held slots.old)) (map leaf_tree (held slots.new)) result }
+    ensures may { (e : Entry) → result ≡ Shrunk.Small e → E.shrinks edit.old }
+    ensures count { IsCounted count.old count.new 1 }
+{
+    match &mut slots[i] {
+        Some(kid) => {
+            let leaf: &mut L = kid;
+            *count = count.saturating_add(1);
+            let outcome = cut_leaf(leaf, was, edit);
+            quiet(outcome, was)
+        }
+        None => unreachable!(),
+    }
+}
+
+/// Returns the first of the two neighbours that child `i` is joined with: that below it, if there is one.
+fn neighbour(i: usize) -> usize
+    ensures beside { (result ≡ i) ⊎ (result + 1 ≡ i) }
+    ensures within { (n : ℕ) → 2 ≤ n → i < n → result + 1 < n }
+{
+    if i > 0 { i - 1 } else { 0 }
+}
+
+/// The minimum number of children of a node that is no root.
+const MIN_CHILDREN: usize = 5;
+
+/// Returns what became of a node that has these entries.
+fn small_of(entries: &Entries) -> Shrunk
+    requires { 0 < length entries.now }
+    ensures { IsSumOf entries.now result }
+{
+    let sum = entries.sum();
+    if entries.len() < MIN_CHILDREN {
+        return Shrunk::Small(sum);
+    }
+    Shrunk::Changed(sum)
+}
+
+/// Changes the child `i` of a node, a leaf.
+fn cut_leaves<L: Leaf, E: Cut<L>>(
+    entries: &mut Entries,
+    slots: &mut [Option<Box<L>>; FANOUT],
+    i: usize,
+    key: u64,
+    edit: &mut E,
+    count: &mut u64,
+) -> Shrunk
+    requires over { IsOver L.entry L.enough 0 leaf_tree entries.old slots.old }
+    requires within { i < length entries.old }
+    requires some { 2 ≤ length entries.old }
+    requires from { 0 < i → (nth entries.old i).at ≤ key }
+    requires upto { i + 1 < length entries.old → key < (nth entries.old (i + 1)).at }
+    requires meet { E.shrinks edit.old → MeetsAfter L.entry L.meets key (λ l ls. (e : E) × E.edits edit.old l e ls) (leaves_of (map leaf_tree (held slots.old))) }
+    ensures over { IsOver L.entry L.enough 0 leaf_tree entries.new slots.new }
+    ensures shrank { Shrank L.entry L.enough (JoinsIf (E.shrinks edit.old) L.joins) key (λ l. E.refuses edit.old l edit.new) (λ l ls. E.edits edit.old l edit.new ls) (over (map leaf_tree (held slots.old))) (over (map leaf_tree (held slots.new))) result }
+    ensures count { IsCounted count.old count.new 1 }
+{
+    let was = entries.entry(i);
+    match cut_leaf_at(slots, i, was, edit, count) {
+        Shrunk::Refused => Shrunk::Refused,
+        Shrunk::Same => Shrunk::Same,
+        Shrunk::Changed(entry) => {
+            entries.set_entry(i, entry);
+            Shrunk::Changed(entries.sum())
+        }
+        Shrunk::Small(entry) => {
+            entries.set_entry(i, entry);
+            mend_leaves(entries, slots, neighbour(i));
+            small_of(entries)
+        }
+    }
+}
+
+/// Changes the child `i`, a node.
+#[cycle(cut)]
+#[tactic(auto, using(crate::proofs::Dense::not_empty, crate::proofs::Dense::rewritten_dense))]
+fn cut_node_at<L: Leaf, E: Cut<L>>(
+    slots: &mut [Option<Box<Node<L>>>; FANOUT],
+    i: usize,
+    was: Entry,
+    key: u64,
+    edit: &mut E,
+    count: &mut u64,
+) -> Shrunk
+    requires dense { IsDense slots.old }
+    requires within { i < length (held slots.old) }
+    requires some { 2 ≤ kids (nth_tree (map node_tree (held slots.old)) i) }
+    requires ascend { Ascend L.entry (nth_tree (map node_tree (held slots.old)) i).leaves }
+    requires meet { E.shrinks edit.old → MeetsAfter L.entry L.meets key (λ l ls. (e : E) × E.edits edit.old l e ls) (nth_tree (map node_tree (held slots.old)) i).leaves }
+    requires was { was ≡ entry_of L.entry (nth_tree (map node_tree (held slots.old)) i) }
+    ensures dense { IsDense slots.new }
+    ensures shrank { ShrankAt L.entry L.enough (JoinsIf (E.shrinks edit.old) L.joins) key (λ l. E.refuses edit.old l edit.new) (λ l ls. E.edits edit.old l edit.new ls) i (map node_tree (held slots.old)) (map node_tree (held slots.new)) result }
+    ensures count { IsCounted count.old count.new ((nth_tree (map node_tree (held slots.old)) i).height) }
+{
+    match &mut slots[i] {
+        Some(kid) => {
+            let kid: &mut Node<L> = kid;
+            let outcome = cut_at(kid, key, edit, count);
+            quiet(outcome, was)
+        }
+        None => unreachable!(),
+    }
+}
+
+/// Changes the child `i` of a node, a node.
+#[cycle(cut)]
+fn cut_nodes<L: Leaf, E: Cut<L>>(
+    entries: &mut Entries,
+    slots: &mut [Option<Box<Node<L>>>; FANOUT],
+    i: usize,
+    key: u64,
+    edit: &mut E,
+    count: &mut u64,
+) -> Shrunk
+    requires over { IsOver L.entry L.enough 2 node_tree entries.old slots.old }
+    requires within { i < length entries.old }
+    requires some { 2 ≤ length entries.old }
+    requires from { 0 < i → (nth entries.old i).at ≤ key }
+    requires upto { i + 1 < length entries.old → key < (nth entries.old (i + 1)).at }
+    requires ascend { Ascend L.entry (leaves_of (map node_tree (held slots.old))) }
+    requires meet { E.shrinks edit.old → MeetsAfter L.entry L.meets key (λ l ls. (e : E) × E.edits edit.old l e ls) (leaves_of (map node_tree (held slots.old))) }
+    ensures over { IsOver L.entry L.enough 2 node_tree entries.new slots.new }
+    ensures shrank { Shrank L.entry L.enough (JoinsIf (E.shrinks edit.old) L.joins) key (λ l. E.refuses edit.old l edit.new) (λ l ls. E.edits edit.old l edit.new ls) (over (map node_tree (held slots.old))) (over (map node_tree (held slots.new))) result }
+    ensures count { IsCounted count.old count.new (front (map node_tree (held slots.old))) }
+{
+    let was = entries.entry(i);
+    match cut_node_at(slots, i, was, key, edit, count) {
+        Shrunk::Refused => Shrunk::Refused,
+        Shrunk::Same => Shrunk::Same,
+        Shrunk::Changed(entry) => {
+            entries.set_entry(i, entry);
+            Shrunk::Changed(entries.sum())
+        }
+        Shrunk::Small(entry) => {
+            entries.set_entry(i, entry);
+            mend_nodes(entries, slots, neighbour(i));
+            small_of(entries)
+        }
+    }
+}
+
+/// Changes the leaf to which a key belongs, below a node with at least two children. Children that become too
+/// small are joined with a neighbour.
+#[cycle(cut)]
+pub(crate) fn cut_at<L: Leaf, E: Cut<L>>(
+    node: &mut Node<L>,
+    key: u64,
+    edit: &mut E,
+    count: &mut u64,
+) -> Shrunk
+    requires some { 2 ≤ kids node.old }
+    requires ascend { Ascend L.entry node.old.leaves }
+    requires meet { E.shrinks edit.old → MeetsAfter L.entry L.meets key (λ l ls. (e : E) × E.edits edit.old l e ls) node.old.leaves }
+    ensures shrank { Shrank L.entry L.enough (JoinsIf (E.shrinks edit.old) L.joins) key (λ l. E.refuses edit.old l edit.new) (λ l ls. E.edits edit.old l edit.new ls) node.old node.new result }
+    ensures count { IsCounted count.old count.new node.old.height }
+{
+    *count = count.saturating_add(1);
+    let i = node.entries.index_of(key);
+    match &mut node.kids {
+        Kids::Leaves(slots) => cut_leaves(&mut node.entries, slots, i, key, edit, count),
+        Kids::Nodes(slots) => cut_nodes(&mut node.entries, slots, i, key, edit, count),
+    }
+}

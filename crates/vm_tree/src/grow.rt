@@ -1,0 +1,130 @@
+//! A child is added to a node, which is split if it is full.
+ghost use Rattle.std.specs.Prelude.{◌≡◌, ◌+◌, ◌<◌, ◌≤◌, ◌++◌, [], length, true, false};
+ghost use Rattle.std.specs.List.{insert};
+ghost use Rattle.vm_tree.specs.Slots.{held, IsDense};
+ghost use Rattle.vm_tree.specs.Outcomes.{IsGrown, IsSettled};
+
+use crate::entries::{Entries, Entry, FANOUT};
+use crate::outcome::{Halves, Outcome, Settled, Upper};
+use crate::slots::{insert_slot, no_slots, split_slots};
+
+/// The children that are left in a node that is split.
+const HALF: usize = 8;
+
+/// Inserts a child at the index `i`. Returns true if the node was full: then its upper half is moved to
+/// `upper` and `upper_slots`.
+#[tactic(auto, using(crate::proofs::Grown::in_one, crate::proofs::Grown::length_in, crate::proofs::Grown::length_low, crate::proofs::Grown::length_up))]
+fn add_child<C: Drop>(
+    entries: &mut Entries,
+    slots: &mut [Option<Box<C>>; FANOUT],
+    i: usize,
+    entry: Entry,
+    child: Box<C>,
+    upper: &mut Entries,
+    upper_slots: &mut [Option<Box<C>>; FANOUT],
+) -> bool
+    requires dense { IsDense slots.old × IsDense upper_slots.old }
+    requires same { length entries.old ≡ length (held slots.old) }
+    requires within { i ≤ length entries.old }
+    requires upper { (upper.old ≡ []) × (held upper_slots.old ≡ []) }
+    ensures dense { IsDense slots.new × IsDense upper_slots.new }
+    ensures entries { entries.new ++ upper.new ≡ insert entries.old i entry }
+    ensures held { held slots.new ++ held upper_slots.new ≡ insert (held slots.old) i child }
+    ensures same { (length entries.new ≡ length (held slots.new)) × (length upper.new ≡ length (held upper_slots.new)) }
+    ensures whole { result ≡ false → upper.new ≡ [] }
+    ensures halves { result ≡ true → (8 ≤ length entries.new) × (8 ≤ length upper.new) × (16 ≤ length entries.old) }
+    ensures some { 0 < length entries.new }
+{
+    let len = entries.len();
+    if len < FANOUT {
+        entries.insert(i, entry);
+        insert_slot(slots, len, i, child);
+        return false;
+    }
+    entries.split_off(HALF, upper);
+    split_slots(slots, len, HALF, upper_slots);
+    if i <= HALF {
+        entries.insert(i, entry);
+        insert_slot(slots, HALF, i, child);
+    } else {
+        upper.insert(i - HALF, entry);
+        insert_slot(upper_slots, HALF, i - HALF, child);
+    }
+    true
+}
+
+/// Inserts a child at the index `i`. If the node is full, then the upper half of the children is returned.
+fn grow<C: Drop>(
+    entries: &mut Entries,
+    slots: &mut [Option<Box<C>>; FANOUT],
+    i: usize,
+    entry: Entry,
+    child: Box<C>,
+) -> Settled<C>
+    requires dense { IsDense slots.old }
+    requires same { length entries.old ≡ length (held slots.old) }
+    requires some { 0 < length entries.old }
+    requires within { i ≤ length entries.old }
+    ensures dense { IsDense slots.new }
+    ensures grown { IsGrown entries.old (held slots.old) i entry child entries.new (held slots.new) result }
+{
+    let mut upper = Entries::empty();
+    let mut upper_slots = no_slots();
+    if add_child(
+        entries,
+        slots,
+        i,
+        entry,
+        child,
+        &mut upper,
+        &mut upper_slots,
+    ) {
+        Settled::Split(Upper {
+            low: entries.sum(),
+            high: upper.sum(),
+            entries: upper,
+            slots: upper_slots,
+        })
+    } else {
+        Settled::Changed(entries.sum())
+    }
+}
+
+/// Returns true if two entries are equal.
+#[inline(always)]
+pub(crate) fn is_same(a: &Entry, b: &Entry) -> bool
+    ensures { result ≡ true → a.now ≡ b.now }
+{
+    a.at == b.at && a.longest == b.longest && a.alignments == b.alignments
+}
+
+/// Writes what was done with the child `i` into the node above it.
+pub(crate) fn settle<C: Drop>(
+    entries: &mut Entries,
+    slots: &mut [Option<Box<C>>; FANOUT],
+    i: usize,
+    outcome: Outcome<C>,
+) -> Settled<C>
+    requires dense { IsDense slots.old }
+    requires same { length entries.old ≡ length (held slots.old) }
+    requires within { i < length entries.old }
+    ensures dense { IsDense slots.new }
+    ensures settled { IsSettled i entries.old (held slots.old) entries.new (held slots.new) outcome result }
+{
+    match outcome {
+        Outcome::Refused => Settled::Refused,
+        Outcome::Same => Settled::Same,
+        Outcome::Changed(entry) => {
+            if is_same(&entries.entry(i), &entry) {
+                return Settled::Same;
+            }
+            entries.set_entry(i, entry);
+            Settled::Changed(entries.sum())
+        }
+        Outcome::Split(halves) => {
+            let Halves { low, high, upper } = halves;
+            entries.set_entry(i, low);
+            grow(entries, slots, i + 1, high, upper)
+        }
+    }
+}

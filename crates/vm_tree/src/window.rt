@@ -1,0 +1,92 @@
+//! The children of a node at which a search looks.
+ghost use Rattle.std.specs.Prelude.{◌≡◌, ◌<◌, ◌≤◌, ◌-◌, length};
+ghost use Rattle.vm_tree.specs.Rows.{nth, Ascends};
+ghost use Rattle.vm_tree.specs.Passing.{FindsNext, IsLowKid, IsKidCount};
+ghost use Rattle.vm_tree.specs.declared.end.End.TheVariants.{First, Last};
+
+use crate::end::End;
+use crate::entries::Entries;
+use crate::leaf::Leaf;
+use crate::search::Seek;
+
+/// Returns the index of the last child that starts at `address` or below it, or 0.
+#[inline(always)]
+pub(crate) fn low_kid(entries: &Entries, address: u64) -> usize
+    requires some { 0 < length entries.now }
+    requires order { Ascends entries.now }
+    ensures { IsLowKid address entries.now result }
+{
+    entries.index_of(address)
+}
+
+/// Returns the number of children that start at `address` or below it, or 1 if there is none.
+#[inline(always)]
+pub(crate) fn kid_count(entries: &Entries, address: u64) -> usize
+    requires some { 0 < length entries.now }
+    requires order { Ascends entries.now }
+    ensures { IsKidCount address entries.now result }
+{
+    // Proof: `len` bounds the number of entries.
+    let _len = entries.len();
+    entries.index_of(address) + 1
+}
+
+/// Returns the first child from `from` up to, but not including, `to` that may have a place.
+#[inline(always)]
+fn first_kid<L: Leaf, S: Seek<L>>(
+    entries: &Entries,
+    from: usize,
+    to: usize,
+    seek: &S,
+) -> Option<usize>
+    requires { to ≤ length entries.now }
+    ensures { FindsNext First (S.seeking seek.now).fits entries.now from to result }
+{
+    let mut i = from;
+    while i < to {
+        if seek.fits(&entries.entry(i)) {
+            return Some(i);
+        }
+        i += 1;
+    }
+    None
+}
+
+/// Returns the last child from `from` up to, but not including, `to` that may have a place.
+#[inline(always)]
+fn last_kid<L: Leaf, S: Seek<L>>(
+    entries: &Entries,
+    from: usize,
+    to: usize,
+    seek: &S,
+) -> Option<usize>
+    requires { to ≤ length entries.now }
+    ensures { FindsNext Last (S.seeking seek.now).fits entries.now from to result }
+{
+    let mut i = to;
+    while from < i {
+        i -= 1;
+        if seek.fits(&entries.entry(i)) {
+            return Some(i);
+        }
+    }
+    None
+}
+
+/// Returns the next child, from an end, that may have a place.
+#[inline(always)]
+pub(crate) fn next_kid<L: Leaf, S: Seek<L>>(
+    entries: &Entries,
+    from: usize,
+    to: usize,
+    end: End,
+    seek: &S,
+) -> Option<usize>
+    requires { to ≤ length entries.now }
+    ensures { FindsNext end (S.seeking seek.now).fits entries.now from to result }
+{
+    match end {
+        End::First => first_kid::<L, S>(entries, from, to, seek),
+        End::Last => last_kid::<L, S>(entries, from, to, seek),
+    }
+}
