@@ -39,7 +39,7 @@ FOLDERS_OF_TESTS = {
 LIBRARIES = {folder.split("::")[0] for folder in FOLDERS}
 # Libraries whose items only proved modules can use. They alone can also use a public function of another library
 # that has a precondition.
-INNER = {"vm_tree", "vm_commands", "vm_leaf", "vm_list", "vm_space", "vm_tree"}
+INNER = {"vm_commands", "vm_leaf", "vm_list", "vm_space", "vm_tree"}
 # A library of which the others do not use everything.
 WIDE = {"vm_tree"}
 # Libraries that callers in Rust and C need, and no program.
@@ -62,7 +62,7 @@ METHODS = set("""and_then append as_array as_object as_slice as_str as_u64 capac
     is_null is_ok is_power_of_two is_some iter last len max min next next_back ok ok_or partition_point pop
     pop_first position push range read remove reserve rotate_left rotate_right saturating_add saturating_sub
     split_at split_at_mut split_first split_last split_off swap_with_slice take trailing_zeros truncate unwrap
-    write_all""".split())
+    write_all write_str""".split())
 MACROS = {"json", "matches", "unreachable"}
 DERIVES = {"Clone", "Copy", "Debug", "Default", "Drop", "Eq", "Error", "Hash", "Ord", "PartialEq", "PartialOrd"}
 TRAITS = {"Clone", "Debug", "DoubleEndedIterator", "Eq", "ExactSizeIterator", "From", "Iterator", "Ord", "PartialEq", "PartialOrd"}

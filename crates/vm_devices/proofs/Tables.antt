@@ -153,6 +153,7 @@ no_starts = record {
   at = λ start id. (λ h. grind (arith, h), λ h. grind (arith, map.get-empty {X = Range} nat_cmp id, h));
 }
 
+module _ {devices : map.FinMap nat_cmp Range} {starts : List DeviceStart} (a : AreIdsByStart devices starts) where
   -- The range of a device is entered by its start. No other device has this start.
   module _ (s : DeviceStart) (r : Range) (is : s.start ≡ r.start) (only : IsOnlyStart devices s.id s.start) where
     -- A device that is new is found by its start.

@@ -17,8 +17,6 @@
 #![allow(unused_imports, unused_variables)]
 
 pub mod vm_addresses;
-#[allow(dead_code)]
-mod vm_tree;
 mod vm_commands;
 pub mod vm_devices;
 pub mod vm_ids;
@@ -29,4 +27,6 @@ mod vm_list;
 pub mod vm_range_map;
 pub mod vm_ranges;
 pub mod vm_saved_trees;
+mod vm_space;
+#[allow(dead_code)]
 mod vm_tree;

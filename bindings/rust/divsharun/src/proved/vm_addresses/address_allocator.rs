@@ -16,7 +16,7 @@
 //! drops the count.
 
 use crate::proved::vm_ranges::{AllocPolicy, Constraint, Error, RangeInclusive, Result};
-use crate::proved::vm_tree::{Tree, Walk};
+use crate::proved::vm_space::{Space, Walk};
 use crate::rattle::Global;
 
 mod allocation;
@@ -45,7 +45,7 @@ pub use list_conflicts::ListConflict;
 pub struct AddressAllocator {
     /// The blocks of the space. A block is a range of addresses that is allocated as a whole, or free as a
     /// whole. Two neighbours are never both free.
-    pub(in crate::proved::vm_addresses) tree: Tree,
+    pub(in crate::proved::vm_addresses) tree: Space,
     /// The addresses of all blocks.
     pub(in crate::proved::vm_addresses) space: RangeInclusive,
     /// The number of allocated ranges.
@@ -81,7 +81,7 @@ impl AddressAllocator {
     /// - `OutOfMemory` if the allocation of the leaf fails.
     pub fn over(alloc: Global, space: RangeInclusive) -> Result<Self> {
         Ok(AddressAllocator {
-            tree: Tree::new(alloc, space)?,
+            tree: Space::new(alloc, space)?,
             space,
             held_count: 0,
             gap_count: 1,
@@ -222,6 +222,8 @@ impl AddressAllocator {
     /// of allocated ranges. Then F(h + 2) is at most 2k + 2. If h is above 1, 12 F(h + 1) is at most 2k + 1.
     /// F is the Fibonacci sequence 1, 1, 2, 3, 5.
     pub fn height(&self) -> u64 {
+        // Proof: the tree is valid.
+        self.tree.facts();
         self.tree.height()
     }
 

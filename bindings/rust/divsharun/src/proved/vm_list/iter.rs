@@ -2,9 +2,9 @@
 
 //! Iteration over the entries of a list from both ends.
 
-use crate::proved::vm_tree::LeafIter;
 use crate::proved::vm_list::chunk::Chunk;
 use crate::proved::vm_list::Keyed;
+use crate::proved::vm_tree::LeafIter;
 
 /// An iterator over the entries of a list in ascending order of their keys, or backwards.
 ///

@@ -5,11 +5,11 @@
 use crate::rattle::Box;
 mod runs;
 
-use crate::proved::vm_tree::{LeafIter, Tree};
 use crate::proved::vm_list::chunk::Chunk;
 use crate::proved::vm_list::iter::Iter;
 use crate::proved::vm_list::leaf::{Lower, Put, TakeOut};
 use crate::proved::vm_list::Keyed;
+use crate::proved::vm_tree::{LeafIter, Tree};
 use crate::rattle::{AllocError, AllocFailed, Global};
 use core::fmt::{Debug, Formatter, Write};
 

@@ -2,9 +2,9 @@
 
 //! A list of entries as a leaf of a tree, and its changes.
 
-use crate::proved::vm_tree::{Change, CopyLeaf, Cut, Cutting, Edit, Entry, Leaf};
 use crate::proved::vm_list::chunk::{Chunk, MAX_ENTRIES, MIN_ENTRIES};
 use crate::proved::vm_list::Keyed;
+use crate::proved::vm_tree::{Change, CopyLeaf, Cut, Cutting, Edit, Entry, Leaf};
 use crate::rattle::Box;
 use crate::rattle::{AllocError, Global};
 

@@ -6,7 +6,7 @@ use super::AddressAllocator;
 use crate::proved::vm_ranges::{
     AllocPolicy, Constraint, Error, NodeState, RangeInclusive, Result, SPLIT_LIMIT,
 };
-use crate::proved::vm_tree::{End, Refusal, Search, Spare, Steps, Taken, Tree};
+use crate::proved::vm_space::{End, Refusal, Search, Space, Spare, Taken};
 use crate::rattle::Global;
 
 impl AddressAllocator {
@@ -44,31 +44,33 @@ impl AddressAllocator {
         request: Constraint,
         can_split: bool,
     ) -> (Result<RangeInclusive>, u64) {
-        let mut count = Steps::new();
+        let mut count = 0;
         let (tree, space) = (&mut self.tree, &self.space);
         let taken = match allocate_in(tree, space, &request, can_split, spare, alloc, &mut count) {
             Ok(taken) => taken,
-            Err(error) => return (Err(error), count.entered()),
+            Err(error) => return (Err(error), count),
         };
         self.held_count += 1;
         self.gap_count += u64::from(taken.added);
         self.gap_count -= 1;
         self.free_len -= request.size();
-        (Ok(taken.range), count.entered())
+        (Ok(taken.range), count)
     }
 }
 
 /// Allocates the range of a request in the tree of a space.
 #[inline(always)]
 fn allocate_in(
-    tree: &mut Tree,
+    tree: &mut Space,
     space: &RangeInclusive,
     constraint: &Constraint,
     can_split: bool,
     spare: &mut Option<Spare>,
     alloc: Global,
-    count: &mut Steps,
+    count: &mut u64,
 ) -> Result<Taken> {
+    // Proof: the tree is valid.
+    tree.facts();
     let search = search_of(constraint, space, can_split);
     let end = match constraint.policy() {
         AllocPolicy::FirstMatch => End::First,
@@ -89,13 +91,13 @@ fn allocate_in(
 /// - The error of the tree.
 #[inline(always)]
 fn allocate_exact(
-    tree: &mut Tree,
+    tree: &mut Space,
     space: &RangeInclusive,
     start: u64,
     search: &Search,
     spare: &mut Option<Spare>,
     alloc: Global,
-    count: &mut Steps,
+    count: &mut u64,
 ) -> Result<Taken> {
     if start == u64::MAX {
         return Err(Error::Overflow);

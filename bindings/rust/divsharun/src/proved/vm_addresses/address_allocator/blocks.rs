@@ -4,7 +4,7 @@
 
 use super::AddressAllocator;
 use crate::proved::vm_ranges::{NodeState, RangeInclusive};
-use crate::proved::vm_tree::Walk;
+use crate::proved::vm_space::Walk;
 
 /// An iterator over the blocks of a space with their states, from the lowest to the highest, or backwards. It
 /// has an exact length, and does not allocate.

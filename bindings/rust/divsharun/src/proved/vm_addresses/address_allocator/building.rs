@@ -6,7 +6,7 @@
 
 use super::{space_from, AddressAllocator};
 use crate::proved::vm_ranges::{Error, ListError, RangeInclusive, Result};
-use crate::proved::vm_tree::Tree;
+use crate::proved::vm_space::Space;
 use crate::rattle::{AllocError, Global};
 
 /// A tree of this many blocks or more is too high.
@@ -79,7 +79,7 @@ fn build(
     left: u64,
 ) -> core::result::Result<AddressAllocator, AllocError> {
     Ok(AddressAllocator {
-        tree: Tree::with_held(alloc, count, space, held)?,
+        tree: Space::with_held(alloc, count, space, held)?,
         space,
         held_count: held.len() as u64,
         gap_count: count - held.len() as u64,

@@ -5,7 +5,7 @@
 //! Both compare states, so the shapes of the trees do not matter.
 
 use super::AddressAllocator;
-use crate::proved::vm_tree::Walk;
+use crate::proved::vm_space::Walk;
 use core::cmp::Ordering;
 
 impl PartialEq for AddressAllocator {

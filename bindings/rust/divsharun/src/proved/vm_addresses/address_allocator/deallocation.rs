@@ -4,7 +4,6 @@
 
 use super::AddressAllocator;
 use crate::proved::vm_ranges::{Error, RangeInclusive, Result};
-use crate::proved::vm_tree::Steps;
 
 impl AddressAllocator {
     /// Frees like [`free`](Self::free), and also returns the number of tree nodes that the call
@@ -20,14 +19,16 @@ impl AddressAllocator {
         if key.start() < self.space.start() || self.space.end() < key.start() {
             return (Err(Error::ResourceNotAvailable), 0);
         }
-        let mut count = Steps::new();
+        // Proof: the tree is valid.
+        self.tree.facts();
+        let mut count = 0;
         let Some(joined) = self.tree.free(key, &mut count) else {
-            return (Err(Error::ResourceNotAvailable), count.entered());
+            return (Err(Error::ResourceNotAvailable), count);
         };
         self.held_count -= 1;
         self.gap_count -= joined;
         self.gap_count += 1;
         self.free_len += key.len();
-        (Ok(()), count.entered())
+        (Ok(()), count)
     }
 }

@@ -12,7 +12,7 @@ use crate::proved::vm_leaf::{highest_fit, lowest_fit};
 use crate::proved::vm_ranges::{
     AllocPolicy, Constraint, Error, RangeInclusive, Result, SPLIT_LIMIT,
 };
-use crate::proved::vm_tree::Spare;
+use crate::proved::vm_space::Spare;
 use crate::rattle::Global;
 
 /// A move that was begun. Nothing that is left to do can fail.
@@ -200,7 +200,7 @@ impl AddressAllocator {
             return Err(Error::Overflow);
         }
         let spare = if splits && range != *key {
-            Some(Spare::new(alloc, range)?)
+            Some(Spare::new(alloc, self.held_count, range)?)
         } else {
             None
         };

@@ -3,7 +3,7 @@
 //! Iteration over the ranges with a state: over the allocated ranges, or over the gaps.
 
 use crate::proved::vm_ranges::{NodeState, RangeInclusive};
-use crate::proved::vm_tree::Walk;
+use crate::proved::vm_space::Walk;
 
 /// An iterator over the allocated ranges in a window, or over the gaps there, from the lowest to the
 /// highest, or backwards. It does not allocate.

@@ -3,9 +3,9 @@
 //! The runs of ids of a list.
 
 use super::KeyedList;
-use crate::proved::vm_tree::{Cut, Cutting, Entry};
 use crate::proved::vm_list::chunk::{Chunk, MIN_ENTRIES};
 use crate::proved::vm_list::id_set::Run;
+use crate::proved::vm_tree::{Cut, Cutting, Entry};
 
 /// Takes the lowest id out of a leaf.
 struct Pop {

@@ -1,0 +1,106 @@
+// Written by bindings/erase from crates/vm_space/src/closest.rt: do not edit.
+
+//! The allocation of the lowest or of the highest place, as a search of a tree.
+
+use crate::proved::vm_leaf::Leaf;
+use crate::proved::vm_space::fit::{fit_in_leaf, split_fit, Fitting};
+use crate::proved::vm_space::search::{Refusal, Search, Taken};
+use crate::proved::vm_tree::{Change, End, Entry, Seek, Tree};
+use crate::rattle::Box;
+use crate::rattle::{AllocError, Global};
+
+/// The allocation of the place of a search that is closest to an end.
+pub(in crate::proved::vm_space) struct Closest {
+    pub(in crate::proved::vm_space) end: End,
+    pub(in crate::proved::vm_space) search: Search,
+    /// What became of it.
+    pub(in crate::proved::vm_space) fitting: Fitting,
+}
+
+impl Closest {
+    /// Returns what became of the search.
+    pub(in crate::proved::vm_space) fn answer(&self) -> Result<Taken, Refusal> {
+        match self.fitting {
+            Fitting::Taken(taken) => Ok(taken),
+            Fitting::Refused(refusal) => Err(refusal),
+            Fitting::Absent | Fitting::Full(_) => Err(Refusal::NoPlace),
+        }
+    }
+}
+
+impl Seek<Leaf> for Closest {
+    #[inline(always)]
+    fn end(&self) -> End {
+        self.end
+    }
+
+    #[inline(always)]
+    fn low(&self) -> u64 {
+        self.search.low
+    }
+
+    #[inline(always)]
+    fn high(&self) -> u64 {
+        self.search.high
+    }
+
+    #[inline(always)]
+    fn fits(&self, entry: &Entry) -> bool {
+        self.search.size <= entry.longest
+            && u64::from(self.search.alignment.trailing_zeros()) < entry.alignments
+    }
+
+    fn seek(&mut self, leaf: &mut Leaf, _was: Entry) -> Option<Change> {
+        let fitting = fit_in_leaf(leaf, self.end, &self.search);
+        let change = match fitting {
+            Fitting::Absent => return None,
+            Fitting::Refused(_) => Change::Refused,
+            Fitting::Full(_) => Change::Full,
+            Fitting::Taken(_) => Change::Changed,
+        };
+        self.fitting = fitting;
+        Some(change)
+    }
+
+    fn split(&mut self, leaf: &mut Leaf, alloc: Global) -> Result<Box<Leaf>, AllocError> {
+        let Fitting::Full(place) = self.fitting else {
+            unreachable!()
+        };
+        let (upper, taken) = split_fit(leaf, self.end, &self.search, &place, alloc)?;
+        self.fitting = Fitting::Taken(taken);
+        Ok(upper)
+    }
+}
+
+/// Allocates the place of a search that is closest to an end, in a tree.
+fn fit_in_tree(
+    tree: &mut Tree<Leaf>,
+    end: End,
+    search: &Search,
+    alloc: Global,
+    count: &mut u64,
+) -> Result<Taken, Refusal> {
+    if search.high < search.low {
+        return Err(Refusal::NoPlace);
+    }
+    let mut closest = Closest {
+        end,
+        search: *search,
+        fitting: Fitting::Absent,
+    };
+    match tree.seek(&mut closest, alloc, count)? {
+        Some(_done) => closest.answer(),
+        None => Err(Refusal::NoPlace),
+    }
+}
+
+/// Allocates the place of a search that is closest to an end, in the tree of a space.
+pub(in crate::proved::vm_space) fn fit_in_space(
+    tree: &mut Tree<Leaf>,
+    end: End,
+    search: &Search,
+    alloc: Global,
+    count: &mut u64,
+) -> Result<Taken, Refusal> {
+    fit_in_tree(tree, end, search, alloc, count)
+}
