@@ -12,8 +12,8 @@ use Rattle.vm_tree.specs.Shrinks.{Meet, Shrank, ShrankAt, IsCut, IsUncut, IsCutS
 use Rattle.vm_tree.proofs.Leaves.{at_key, single, joined-none}
 
 module _ {X : Type 0} (entry : X → Entry) (enough : X → Type 0) (key : ℕ) (refuses : X → Type 0) (edits : X → List X → Type 0) where
-  one : (l n : X) → edits l (n ∷ []) → IsCut entry NoJoin key edits (leaf_of l) (leaf_of n)
-  one l n e = record {
+  pub cut_one : (l n : X) → edits l (n ∷ []) → IsCut entry NoJoin key edits (leaf_of l) (leaf_of n)
+  cut_one l n e = record {
     height = refl;
     fan = omega arith;
     cut = record {
@@ -44,14 +44,14 @@ module _ {X : Type 0} (entry : X → Entry) (enough : X → Type 0) (key : ℕ) 
 
   pub leaf_same : (l n : X) → (enough l → enough n) → edits l (n ∷ []) → entry n ≡ entry l
       → IsCutSame entry enough NoJoin key refuses edits (leaf_of l) (leaf_of n)
-  leaf_same l n p e s = record { one = one l n e; sum = ap (λ d. joined d blank) s; full = still l n p }
+  leaf_same l n p e s = record { one = cut_one l n e; sum = ap (λ d. joined d blank) s; full = still l n p }
 
   pub leaf_full : (l n : X) (e : Entry) → (enough l → enough n) → edits l (n ∷ []) → e ≡ entry n
       → IsCutFull entry enough NoJoin key refuses edits e (leaf_of l) (leaf_of n)
-  leaf_full l n e p d s = record { one = one l n d; sum = s ∙ joined-none (entry n); full = still l n p }
+  leaf_full l n e p d s = record { one = cut_one l n d; sum = s ∙ joined-none (entry n); full = still l n p }
 
   pub leaf_small : (l n : X) (e : Entry) → edits l (n ∷ []) → e ≡ entry n → IsCutSmall entry enough NoJoin key refuses edits e (leaf_of l) (leaf_of n)
-  leaf_small l n e d s = record { one = one l n d; sum = s ∙ joined-none (entry n) }
+  leaf_small l n e d s = record { one = cut_one l n d; sum = s ∙ joined-none (entry n) }
 
 -- The child i was changed in its slot.
 module _ {X C : Type 0} (tree : Box C Global → Subtree X) (os : List (Option (Box C Global))) (i : ℕ) (o : Option (Box C Global)) (k n : Box C Global)

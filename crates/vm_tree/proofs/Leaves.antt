@@ -27,8 +27,8 @@ module _ {X : Type 0} (entry : X → Entry) (enough : X → Type 0) (at : List X
   home : StandsAt at (l ∷ []) [] l []
   home = record { was = refl; here = here }
 
-  one : (n : X) → (enough l → enough n) → edits l (n ∷ []) → IsOne enough at edits (leaf_of l) (leaf_of n)
-  one n p e = record {
+  pub leaf_one : (n : X) → (enough l → enough n) → edits l (n ∷ []) → IsOne enough at edits (leaf_of l) (leaf_of n)
+  leaf_one n p e = record {
     height = refl;
     fan = omega arith;
     few = λ p. omega arith;
@@ -40,11 +40,11 @@ module _ {X : Type 0} (entry : X → Entry) (enough : X → Type 0) (at : List X
   leaf_kept n e r = record { same = ap leaf_of e; refused = record { before = []; leaf = l; after = []; home = home; refused = r } }
 
   pub leaf_same : (n : X) → (enough l → enough n) → edits l (n ∷ []) → entry n ≡ entry l → IsSame entry enough at refuses edits (leaf_of l) (leaf_of n)
-  leaf_same n p e s = record { one = one n p e; sum = ap (λ d. joined d blank) s }
+  leaf_same n p e s = record { one = leaf_one n p e; sum = ap (λ d. joined d blank) s }
 
   pub leaf_changed : (n : X) (e : Entry) → (enough l → enough n) → edits l (n ∷ []) → e ≡ entry n
       → IsChanged entry enough at refuses edits e (leaf_of l) (leaf_of n)
-  leaf_changed n e p d s = record { one = one n p d; sum = s ∙ joined-none (entry n) }
+  leaf_changed n e p d s = record { one = leaf_one n p d; sum = s ∙ joined-none (entry n) }
 
   pub leaf_split : (n u : X) (e f : Entry) → enough n → enough u → edits l (n ∷ u ∷ []) → e ≡ entry n → f ≡ entry u
       → IsSplit entry enough at refuses edits e f (leaf_of l) (leaf_of n) (leaf_of u)

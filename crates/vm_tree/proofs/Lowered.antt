@@ -1,5 +1,5 @@
 -- A root that lost a child.
-use Rattle.std.proofs.Common.{◌≡◌, ℕ, ◌≤◌, ◌<◌, List, [], ◌∷◌, Bool, true, length, map, get_or, Option, Box, ◌∙◌, sym, ap, subst, arith}
+use Rattle.std.proofs.Common.{◌≡◌, ℕ, ◌≤◌, ◌<◌, List, [], ◌∷◌, Bool, true, false, length, map, get_or, Option, Box, ◌∙◌, sym, ap, subst, arith}
 use Rattle.std.proofs.lemmas.List.{append-nil}
 use Rattle.std.specs.declared.alloc.Global.{Global}
 use Rattle.vm_tree.specs.Entry.{Entry}
@@ -7,7 +7,7 @@ use Rattle.vm_tree.specs.Slots.{held}
 use Rattle.vm_tree.specs.Subtree.{Subtree, kids, over, front, IsFull, AreFull}
 use Rattle.vm_tree.specs.Over.{IsOver}
 use Rattle.vm_tree.specs.Nodes.{kids_of, node_tree}
-use Rattle.vm_tree.specs.Lowers.{IsLowered, HasShrunk, IsTreeCut}
+use Rattle.vm_tree.specs.Lowers.{IsRootCut, IsLowered, HasShrunk, IsTreeCut}
 use Rattle.vm_tree.specs.Edits.{IsEdited}
 use Rattle.vm_tree.specs.Shrinks.{Any, JoinsIf, Shrank, IsShrunk}
 use Rattle.vm_tree.specs.Mends.{NoJoin}
@@ -48,27 +48,20 @@ module _ {X : Type 0} (en : X → Entry) (P : X → Type 0) (J : X → X → Lis
     alone : (old new : List X) → IsShrunk en K key edits old new → IsEdited en Any key edits old new
     alone old new r = subst (λ xs. IsEdited en Any key edits old xs) (sym (plain K r.middle new (weaken K NoJoin w r.middle new r.regrouped))) r.edited
 
-    unjoined : (s t : Subtree X) (o : Shrunk) → Shrank en P K key refuses edits s t o → HasShrunk o ≡ true → IsEdited en Any key edits s.leaves t.leaves
-    unjoined s t shrunk.Refused g e = absurd cc
-    unjoined s t shrunk.Same g e = alone s.leaves t.leaves g.one.cut
-    unjoined s t (shrunk.Changed d) g e = alone s.leaves t.leaves g.one.cut
-    unjoined s t (shrunk.Small d) g e = alone s.leaves t.leaves g.one.cut
-
   -- A tree that is one leaf.
-  leaf_cut : (s t : Subtree X) (o : Shrunk) → Shrank en P NoJoin key refuses edits s t o → IsTreeCut en J key refuses edits s t (HasShrunk o)
-  leaf_cut s t shrunk.Refused g = record { same = g.same; refused = g.refused }
-  leaf_cut s t shrunk.Same g = record { height = omega (arith, g.one.height); lower = omega (arith, g.one.height); cut = loose g.one.cut }
-  leaf_cut s t (shrunk.Changed e) g = record { height = omega (arith, g.one.height); lower = omega (arith, g.one.height); cut = loose g.one.cut }
-  leaf_cut s t (shrunk.Small e) g = record { height = omega (arith, g.one.height); lower = omega (arith, g.one.height); cut = loose g.one.cut }
+  root_cut : (s t : Subtree X) (done : Bool) → IsRootCut en P NoJoin key refuses edits s t done → IsTreeCut en J key refuses edits s t done
+  root_cut s t false g = record { same = g.same; refused = g.refused }
+  root_cut s t true g = record { height = omega (arith, g.height); lower = omega (arith, g.height); cut = loose g.cut }
 
-  pub leaf_after : (s t was now : Subtree X) (o : Shrunk) (done : Bool) → Shrank en P NoJoin key refuses edits s t o → was ≡ s → now ≡ t
-      → done ≡ HasShrunk o → IsTreeCut en J key refuses edits was now done
-  leaf_after s t was now o done g a b d = rw (a, b, d) (leaf_cut s t o g)
+  pub leaf_after : (s t was now : Subtree X) (done : Bool) → IsRootCut en P NoJoin key refuses edits s t done → was ≡ s → now ≡ t
+      → IsTreeCut en J key refuses edits was now done
+  leaf_after s t was now done g a b = rw (a, b) (root_cut s t done g)
 
   -- No leaves were joined.
-  pub leaf_kept : (s t was now : Subtree X) (o : Shrunk) (done : Bool) → Shrank en P NoJoin key refuses edits s t o → was ≡ s → now ≡ t
-      → done ≡ HasShrunk o → done ≡ true → IsEdited en Any key edits was.leaves now.leaves
-  leaf_kept s t was now o done g a b d e = rw (a, b) (unjoined NoJoin (λ x y zs q. q) s t o g (sym d ∙ e))
+  pub leaf_kept : (s t was now : Subtree X) (done : Bool) → IsRootCut en P NoJoin key refuses edits s t done → was ≡ s → now ≡ t
+      → done ≡ true → IsEdited en Any key edits was.leaves now.leaves
+  leaf_kept s t was now false g a b e = absurd cc
+  leaf_kept s t was now true g a b e = rw (a, b) (alone NoJoin (λ x y zs q. q) s.leaves t.leaves g.cut)
 
   -- A tree whose root is a node, which may lose its only child. Leaves are joined only if S.
   module _ (S : Type 0) where

@@ -1,10 +1,11 @@
 -- What a change did to a subtree.
-use Rattle.std.specs.Prelude.{◌≡◌, ℕ, ◌+◌, ◌≤◌, List, set, map, Box}
+use Rattle.std.specs.Prelude.{◌≡◌, ℕ, ◌+◌, ◌≤◌, List, set, map, Box, Option}
 use Rattle.std.specs.declared.alloc.Global.{Global}
 use Rattle.vm_tree.specs.Entry.{Entry}
-use Rattle.vm_tree.specs.Slots.{held}
+use Rattle.vm_tree.specs.Slots.{held, IsDense}
 use Rattle.vm_tree.specs.Subtree.{Subtree, entry_of, nth_tree, over}
 use Rattle.vm_tree.specs.Over.{IsOver}
+use Rattle.vm_tree.specs.Outcomes.{IsSettled}
 use Rattle.vm_tree.specs.Edits.{IsRefusedAt, IsOne, IsTwo}
 use Rattle.vm_tree.specs.declared.outcome.Halves.{Halves}
 use Rattle.vm_tree.specs.declared.outcome.Upper.{Upper}
@@ -41,6 +42,13 @@ module _ {X : Type 0} (entry : X → Entry) (enough : X → Type 0) (at : List X
   Grew tree s t outcome.Same = IsSame s t
   Grew tree s t (outcome.Changed e) = IsChanged e s t
   Grew tree s t (outcome.Split h) = IsSplit h.low h.high s t (tree h.upper)
+
+  -- The root s became t.
+  abbrev pub Went : {C : Type 0} → (Box C Global → Subtree X) → Subtree X → Subtree X → Outcome C → Type 0
+  Went tree s t outcome.Refused = IsKept s t
+  Went tree s t outcome.Same = IsOne enough at edits s t
+  Went tree s t (outcome.Changed e) = IsOne enough at edits s t
+  Went tree s t (outcome.Split h) = IsSplit h.low h.high s t (tree h.upper)
 
   -- The child i of ss became another.
   pub record GrewAt {C : Type 0} (tree : Box C Global → Subtree X) (i : ℕ) (ss ts : List (Subtree X)) (o : Outcome C) : Type 0 where
@@ -89,3 +97,16 @@ module _ {X C D : Type 0} (tree : Box C Global → Subtree X) (node : Box D Glob
   IsFinished (settled.Changed e) (outcome.Changed d) = d ≡ e
   IsFinished (settled.Split u) (outcome.Split h) = IsInNode u h
   IsFinished _ _ = ⊥
+
+-- Whatever becomes of the node by what was done with the child i, an upper half may stand in a node, and there is one for it.
+abbrev pub CanSettle : {X C : Type 0} → (X → Entry) → (X → Type 0) → ℕ → (Box C Global → Subtree X) → ℕ → ℕ → List Entry → List (Box C Global) → Outcome C → Type 0
+CanSettle {X} {C} entry enough least tree n i es bs o =
+    (fs : List Entry) (os : List (Option (Box C Global))) (r : Settled C) → IsDense os → IsSettled i es bs fs (held os) o r
+    → CanFinish entry enough least tree n r
+
+-- What was done with the child i becomes this of the node, of which an upper half stands in a node.
+pub record IsSettledIn {X C D : Type 0} (tree : Box C Global → Subtree X) (node : Box D Global → Subtree X) (n m i : ℕ) (es : List Entry)
+    (bs : List (Box C Global)) (fs : List Entry) (cs : List (Box C Global)) (o : Outcome C) (r : Outcome D) : Type 0 where
+  pub settled : Settled C
+  pub is : IsSettled i es bs fs cs o settled
+  pub finished : IsFinished tree node n m settled r

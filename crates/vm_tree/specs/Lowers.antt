@@ -3,7 +3,7 @@ use Rattle.std.specs.Prelude.{◌≡◌, ℕ, ◌+◌, ◌≤◌, List, Bool, tr
 use Rattle.vm_tree.specs.Entry.{Entry}
 use Rattle.vm_tree.specs.Subtree.{Subtree, kids}
 use Rattle.vm_tree.specs.Edits.{IsRefused}
-use Rattle.vm_tree.specs.Shrinks.{IsShrunk}
+use Rattle.vm_tree.specs.Shrinks.{IsShrunk, IsUncut, IsCut}
 use Rattle.vm_tree.specs.declared.cut.Shrunk.{Shrunk}
 use Rattle.vm_tree.specs.declared.cut.Shrunk.TheVariants as shrunk
 
@@ -36,3 +36,8 @@ module _ {X : Type 0} (entry : X → Entry) (joins : X → X → List X → Type
   abbrev pub IsTreeCut : Bool → Type 0
   IsTreeCut false = IsUncutTree
   IsTreeCut true = IsCutTree
+
+-- What a change did to a root: the leaf refused, or it has changed.
+abbrev pub IsRootCut : {X : Type 0} → (X → Entry) → (X → Type 0) → (X → X → List X → Type 0) → ℕ → (X → Type 0) → (X → List X → Type 0) → Subtree X → Subtree X → Bool → Type 0
+IsRootCut entry enough joins key refuses edits s t false = IsUncut entry enough joins key refuses edits s t
+IsRootCut entry enough joins key refuses edits s t true = IsCut entry joins key edits s t

@@ -1,5 +1,5 @@
 -- What became of the children of a node.
-use Rattle.std.specs.Prelude.{◌≡◌, ℕ, ◌+◌, ◌≤◌, List, ◌++◌, length, set, Box}
+use Rattle.std.specs.Prelude.{◌≡◌, ℕ, ◌+◌, ◌≤◌, List, ◌++◌, length, set, Box, Option, Some, None}
 use Rattle.std.specs.declared.alloc.Global.{Global}
 use Rattle.std.specs.List.{insert}
 use Rattle.vm_tree.specs.Entry.{Entry}
@@ -36,6 +36,11 @@ module _ {C : Type 0} (es : List Entry) (bs : List (Box C Global)) (i : ℕ) (en
   IsGrown settled.Same = ⊥
   IsGrown (settled.Changed d) = IsAdded d
   IsGrown (settled.Split u) = IsHalved u
+
+-- The entry i became e: it was e before, or the sum of the entries is told.
+abbrev pub IsNoted : ℕ → List Entry → Entry → List Entry → Option Entry → Type 0
+IsNoted i es e fs None = (fs ≡ es) × (nth es i ≡ e)
+IsNoted i es e fs (Some d) = (fs ≡ set es i e) × (d ≡ sum_of fs)
 
 module _ {C : Type 0} (i : ℕ) (es : List Entry) (bs : List (Box C Global)) (fs : List Entry) (cs : List (Box C Global)) where
   -- Nothing was changed.

@@ -4,7 +4,7 @@ use Rattle.std.specs.declared.alloc.Global.{Global}
 use Rattle.vm_tree.specs.Entry.{Entry}
 use Rattle.vm_tree.specs.Subtree.{Subtree, over, leaves_of, front, nth_tree, AllOf, leaves_entry}
 use Rattle.vm_tree.specs.Edits.{StandsAt}
-use Rattle.vm_tree.specs.Grew.{IsKept, Grew, GrewAt, FailedAt}
+use Rattle.vm_tree.specs.Grew.{IsKept, Grew, GrewAt, FailedAt, Went}
 use Rattle.vm_tree.specs.Raised.{IsKeptTree, IsTreeAfterAt}
 use Rattle.vm_tree.specs.Seeking.{Seeking, IsSeeking, beyond, total, extra}
 use Rattle.vm_tree.specs.Passing.{nodes_of, passed}
@@ -91,6 +91,11 @@ module _ {X : Type 0} (entry : X → Entry) (enough : X → Type 0) (q : Seeking
   abbrev pub Sought : {C : Type 0} → (Box C Global → Subtree X) → Subtree X → Subtree X → Option (Outcome C) → Type 0
   Sought tree s t None = IsUnsought q c d s t
   Sought tree s t (Some o) = Grew entry enough (AtNearest q c d s) refuses edits tree s t o
+
+  -- What a search did with a root.
+  abbrev pub SoughtRoot : {C : Type 0} → (Box C Global → Subtree X) → Subtree X → Subtree X → Option (Outcome C) → Type 0
+  SoughtRoot tree s t None = IsUnsought q c d s t
+  SoughtRoot tree s t (Some o) = Went entry enough (AtNearest q c d s) refuses edits tree s t o
 
   -- What a search did with the child i.
   abbrev pub SoughtAt : {C : Type 0} → (Box C Global → Subtree X) → ℕ → List (Subtree X) → List (Subtree X) → Option (Outcome C) → Type 0

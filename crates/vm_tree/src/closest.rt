@@ -7,13 +7,14 @@ ghost use Rattle.vm_tree.specs.Sought.{IsTreeSought, IsTreeFailed};
 use crate::leaf::Leaf;
 use crate::node::Node;
 use crate::search::Seek;
-use crate::seek::{seek_at, seek_leaf};
+use crate::seek::{seek_at, seek_root};
 use crate::tree::{Root, Tree, has_changed, leaf_root, node_root};
 use crate::window::{kid_count, low_kid, next_kid};
 use std::alloc::{AllocError, Global};
 use std::mem;
 
 /// Returns true if a child of a node may have a place. Otherwise the node has none.
+#[inline(always)]
 fn may_enter<L: Leaf, S: Seek<L>>(node: &Node<L>, seek: &S) -> bool
     requires some { 0 < kids node.now }
     requires runs { (S.seeking seek.now).runs node.now.leaves }
@@ -43,12 +44,8 @@ fn seek_leaf_root<L: Leaf, S: Seek<L>>(
 {
     // Proof: `end` gives the laws of a search.
     let _end = seek.end();
-    let was = leaf.entry();
-    if !seek.fits(&was) {
-        return (Root::Leaf(leaf), Ok(None));
-    }
     let mut spares = Vec::new(alloc);
-    match seek_leaf(&mut *leaf, was, seek, 1, &mut spares, alloc, count) {
+    match seek_root(&mut *leaf, seek, &mut spares, alloc, count) {
         Ok(Some(outcome)) => {
             let done = has_changed(&outcome);
             (leaf_root(leaf, outcome, &mut spares), Ok(Some(done)))

@@ -8,10 +8,11 @@ ghost use Rattle.vm_tree.specs.Slots.{held, IsDense};
 ghost use Rattle.vm_tree.specs.Nodes.{leaf_tree, node_tree};
 ghost use Rattle.vm_tree.specs.Mends.{NoJoin};
 ghost use Rattle.vm_tree.specs.Shrinks.{Shrank, ShrankAt, MeetsAfter, IsSumOf, IsQuiet, JoinsIf};
+ghost use Rattle.vm_tree.specs.Lowers.{IsRootCut};
 ghost use Rattle.vm_tree.specs.Found.{HasKid};
 ghost use Rattle.vm_tree.specs.Entry.{Entry};
 
-use crate::entries::{Entries, Entry, FANOUT};
+use crate::entries::{Entries, Entry, FANOUT, MOST};
 use crate::grow::is_same;
 use crate::leaf::Leaf;
 use crate::mend::{mend_leaves, mend_nodes};
@@ -23,10 +24,10 @@ pub enum Cutting {
     Refused,
     /// It changed the leaf, but not what is stored beside it.
     Same,
-    /// It changed the leaf.
-    Changed,
-    /// It changed the leaf, which may have too few items.
-    Small,
+    /// It changed the leaf, which has this entry now.
+    Changed(Entry),
+    /// It changed the leaf, which has this entry now, and may have too few items.
+    Small(Entry),
 }
 
 /// A change of one leaf that leaves it fewer items.
@@ -37,13 +38,13 @@ pub trait Cut<L: Leaf> {
 
     ghost shrinks: { Self → Type 0 };
 
-    /// Changes a leaf, beside which `was` is stored.
+    /// Changes a leaf, beside which `was` is stored. If the leaf is a root, then `was` is not its entry, and the result
+    /// does not tell the entry.
     fn cut(&mut self, leaf: &mut L, was: Entry) -> Cutting
-        requires { was ≡ L.entry leaf.old }
         ensures refused { result ≡ Cutting.Refused → (leaf.new ≡ leaf.old) × refuses self.old leaf.old self.new }
-        ensures same { result ≡ Cutting.Same → (L.entry leaf.new ≡ L.entry leaf.old) × edits self.old leaf.old self.new (leaf.new ∷ []) × (L.enough leaf.old → L.enough leaf.new) }
-        ensures changed { result ≡ Cutting.Changed → edits self.old leaf.old self.new (leaf.new ∷ []) × (L.enough leaf.old → L.enough leaf.new) }
-        ensures small { result ≡ Cutting.Small → edits self.old leaf.old self.new (leaf.new ∷ []) × shrinks self.old };
+        ensures same { result ≡ Cutting.Same → (was ≡ L.entry leaf.old → L.entry leaf.new ≡ L.entry leaf.old) × edits self.old leaf.old self.new (leaf.new ∷ []) × (L.enough leaf.old → L.enough leaf.new) }
+        ensures changed { (e : Entry) → result ≡ Cutting.Changed e → (was ≡ L.entry leaf.old → e ≡ L.entry leaf.new) × edits self.old leaf.old self.new (leaf.new ∷ []) × (L.enough leaf.old → L.enough leaf.new) }
+        ensures small { (e : Entry) → result ≡ Cutting.Small e → (was ≡ L.entry leaf.old → e ≡ L.entry leaf.new) × edits self.old leaf.old self.new (leaf.new ∷ []) × shrinks self.old };
 }
 
 /// What a change did to a child.
@@ -60,6 +61,7 @@ pub(crate) enum Shrunk {
 }
 
 /// Changes a leaf.
+#[inline(always)]
 pub(crate) fn cut_leaf<L: Leaf, E: Cut<L>>(leaf: &mut L, was: Entry, edit: &mut E) -> Shrunk
     requires { was ≡ L.entry leaf.old }
     ensures shrank { (key : ℕ) → Shrank L.entry L.enough NoJoin key (λ l. E.refuses edit.old l edit.new) (λ l ls. E.edits edit.old l edit.new ls) (leaf_of leaf.old) (leaf_of leaf.new) result }
@@ -68,20 +70,26 @@ pub(crate) fn cut_leaf<L: Leaf, E: Cut<L>>(leaf: &mut L, was: Entry, edit: &mut 
     match edit.cut(leaf, was) {
         Cutting::Refused => Shrunk::Refused,
         Cutting::Same => Shrunk::Same,
-        Cutting::Changed => Shrunk::Changed(leaf.entry()),
-        Cutting::Small => Shrunk::Small(leaf.entry()),
+        Cutting::Changed(entry) => Shrunk::Changed(entry),
+        Cutting::Small(entry) => Shrunk::Small(entry),
     }
 }
 
-/// Changes a leaf that is a root.
-pub(crate) fn cut_root<L: Leaf, E: Cut<L>>(leaf: &mut L, edit: &mut E) -> Shrunk
-    ensures shrank { (key : ℕ) → Shrank L.entry L.enough NoJoin key (λ l. E.refuses edit.old l edit.new) (λ l ls. E.edits edit.old l edit.new ls) (leaf_of leaf.old) (leaf_of leaf.new) result }
+/// Changes a leaf that is a root. Returns false if it refused, and nothing was changed.
+#[inline(always)]
+pub(crate) fn cut_root<L: Leaf, E: Cut<L>>(leaf: &mut L, edit: &mut E) -> bool
+    ensures { (key : ℕ) → IsRootCut L.entry L.enough NoJoin key (λ l. E.refuses edit.old l edit.new) (λ l ls. E.edits edit.old l edit.new ls) (leaf_of leaf.old) (leaf_of leaf.new) result }
 {
-    let was = leaf.entry();
-    cut_leaf(leaf, was, edit)
+    match edit.cut(leaf, MOST) {
+        Cutting::Refused => false,
+        Cutting::Same => true,
+        Cutting::Changed(_) => true,
+        Cutting::Small(_) => true,
+    }
 }
 
 /// Returns `Same` if the entry of a child is as before.
+#[inline(always)]
 fn quiet(outcome: Shrunk, was: Entry) -> Shrunk
     ensures { IsQuiet was outcome result }
 {
@@ -100,6 +108,7 @@ fn quiet(outcome: Shrunk, was: Entry) -> Shrunk
 
 /// Changes the child `i`, a leaf.
 #[tactic(auto, using(crate::proofs::Dense::not_empty, crate::proofs::Dense::rewritten_dense))]
+#[inline(always)]
 fn cut_leaf_at<L: Leaf, E: Cut<L>>(
     slots: &mut [Option<Box<L>>; FANOUT],
     i: usize,
@@ -150,6 +159,7 @@ fn small_of(entries: &Entries) -> Shrunk
 }
 
 /// Changes the child `i` of a node, a leaf.
+#[inline(always)]
 fn cut_leaves<L: Leaf, E: Cut<L>>(
     entries: &mut Entries,
     slots: &mut [Option<Box<L>>; FANOUT],
@@ -187,6 +197,7 @@ fn cut_leaves<L: Leaf, E: Cut<L>>(
 /// Changes the child `i`, a node.
 #[cycle(cut)]
 #[tactic(auto, using(crate::proofs::Dense::not_empty, crate::proofs::Dense::rewritten_dense))]
+#[inline(always)]
 fn cut_node_at<L: Leaf, E: Cut<L>>(
     slots: &mut [Option<Box<Node<L>>>; FANOUT],
     i: usize,
@@ -217,6 +228,7 @@ fn cut_node_at<L: Leaf, E: Cut<L>>(
 
 /// Changes the child `i` of a node, a node.
 #[cycle(cut)]
+#[inline(always)]
 fn cut_nodes<L: Leaf, E: Cut<L>>(
     entries: &mut Entries,
     slots: &mut [Option<Box<Node<L>>>; FANOUT],

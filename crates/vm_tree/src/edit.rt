@@ -8,13 +8,13 @@ ghost use Rattle.vm_tree.specs.Found.{IsLeafOf, HasKid};
 ghost use Rattle.vm_tree.specs.Slots.{held, IsDense};
 ghost use Rattle.vm_tree.specs.Nodes.{leaf_tree, node_tree};
 ghost use Rattle.vm_tree.specs.Sought.{IsCounted};
-ghost use Rattle.vm_tree.specs.Grew.{IsKept, FailedAt, Grew, GrewAt, HasSpares, CanFinish, IsFinished};
+ghost use Rattle.vm_tree.specs.Grew.{IsKept, IsSplit, FailedAt, Grew, GrewAt, HasSpares, Went};
 
-use crate::entries::{Entries, Entry, FANOUT};
-use crate::grow::settle;
+use crate::entries::{Entries, Entry, FANOUT, MOST};
 use crate::leaf::{Change, Edit, Leaf};
 use crate::node::{Kids, Node};
-use crate::outcome::{Halves, Outcome, Settled, Upper};
+use crate::outcome::{Halves, Outcome};
+use crate::settle::{settle_leaves, settle_nodes};
 use crate::slots::no_slots;
 use std::alloc::{AllocError, Global};
 
@@ -38,6 +38,7 @@ impl<L: Leaf> Node<L> {
 }
 
 /// Allocates spare nodes until there are `n`.
+#[inline(never)]
 pub fn reserve_nodes<L: Leaf>(
     spares: &mut Vec<Box<Node<L>>>,
     n: usize,
@@ -52,7 +53,30 @@ pub fn reserve_nodes<L: Leaf>(
     Ok(())
 }
 
+/// Splits a leaf that has no room for its change. Before the change there are `full` nodes in `spares`.
+#[inline(never)]
+fn split_leaf<L: Leaf, E: Edit<L>>(
+    leaf: &mut L,
+    edit: &mut E,
+    full: usize,
+    spares: &mut Vec<Box<Node<L>>>,
+    alloc: Global,
+) -> Result<Halves<L>, AllocError>
+    requires { E.can_split edit.old leaf.old }
+    ensures split { (key : ℕ) → IfOk result (λ h. IsSplit L.entry L.enough (AtKey L.entry key) (λ l. E.refuses edit.old l edit.new) (λ l ls. E.edits edit.old l edit.new ls) h.low h.high (leaf_of leaf.old) (leaf_of leaf.new) (leaf_tree h.upper)) }
+    ensures spares { OnOk result (full ≤ length spares.new.items) }
+    ensures unchanged { OnErr result ((leaf.new ≡ leaf.old) × (edit.new ≡ edit.old)) }
+    ensures lacks { full ≤ length spares.old.items → OnErr result (E.lacks edit.old leaf.old) }
+{
+    reserve_nodes(spares, full, alloc)?;
+    let upper = edit.split(leaf, alloc)?;
+    let low = leaf.entry();
+    let high = upper.entry();
+    Ok(Halves { low, high, upper })
+}
+
 /// Changes a leaf. It is split if it has no room: then `full` nodes are allocated before the change.
+#[inline(always)]
 pub(crate) fn edit_leaf<L: Leaf, E: Edit<L>>(
     leaf: &mut L,
     was: Entry,
@@ -74,17 +98,12 @@ pub(crate) fn edit_leaf<L: Leaf, E: Edit<L>>(
         Change::Same => Ok(Outcome::Same),
         Change::Changed => Ok(Outcome::Changed(leaf.entry())),
         Change::OutOfMemory => Err(AllocError),
-        Change::Full => {
-            reserve_nodes(spares, full, alloc)?;
-            let upper = edit.split(leaf, alloc)?;
-            let low = leaf.entry();
-            let high = upper.entry();
-            Ok(Outcome::Split(Halves { low, high, upper }))
-        }
+        Change::Full => Ok(Outcome::Split(split_leaf(leaf, edit, full, spares, alloc)?)),
     }
 }
 
-/// Changes a leaf that is a root.
+/// Changes a leaf that is a root, beside which no entry is stored.
+#[inline(always)]
 pub(crate) fn edit_root<L: Leaf, E: Edit<L>>(
     leaf: &mut L,
     edit: &mut E,
@@ -92,18 +111,24 @@ pub(crate) fn edit_root<L: Leaf, E: Edit<L>>(
     alloc: Global,
 ) -> Result<Outcome<L>, AllocError>
     requires { E.can_change edit.old leaf.old }
-    ensures grew { (key : ℕ) → IfOk result (λ o. Grew L.entry L.enough (AtKey L.entry key) (λ l. E.refuses edit.old l edit.new) (λ l ls. E.edits edit.old l edit.new ls) leaf_tree (leaf_of leaf.old) (leaf_of leaf.new) o) }
+    ensures went { (key : ℕ) → IfOk result (λ o. Went L.entry L.enough (AtKey L.entry key) (λ l. E.refuses edit.old l edit.new) (λ l ls. E.edits edit.old l edit.new ls) leaf_tree (leaf_of leaf.old) (leaf_of leaf.new) o) }
     ensures spares { IfOk result (λ o. HasSpares 1 (length spares.new.items) o) }
     ensures unchanged { OnErr result ((leaf.new ≡ leaf.old) × (edit.new ≡ edit.old)) }
     ensures failed { (key : ℕ) → OnErr result (IsKept L.entry L.enough (AtKey L.entry key) (λ l. E.needs_memory edit.old l) (λ l ls. E.edits edit.old l edit.new ls) (leaf_of leaf.old) (leaf_of leaf.new)) }
     ensures spare { (key : ℕ) → 1 ≤ length spares.old.items → OnErr result (IsKept L.entry L.enough (AtKey L.entry key) (λ l. E.lacks edit.old l) (λ l ls. E.edits edit.old l edit.new ls) (leaf_of leaf.old) (leaf_of leaf.new)) }
 {
-    let was = leaf.entry();
-    edit_leaf(leaf, was, edit, 1, spares, alloc)
+    match edit.change(leaf, MOST) {
+        Change::Refused => Ok(Outcome::Refused),
+        Change::Same => Ok(Outcome::Same),
+        Change::Changed => Ok(Outcome::Same),
+        Change::OutOfMemory => Err(AllocError),
+        Change::Full => Ok(Outcome::Split(split_leaf(leaf, edit, 1, spares, alloc)?)),
+    }
 }
 
 /// Changes the child `i`, a leaf.
 #[tactic(auto, using(crate::proofs::Dense::not_empty, crate::proofs::Dense::rewritten_dense))]
+#[inline(always)]
 fn edit_leaf_at<L: Leaf, E: Edit<L>>(
     slots: &mut [Option<Box<L>>; FANOUT],
     i: usize,
@@ -136,71 +161,8 @@ fn edit_leaf_at<L: Leaf, E: Edit<L>>(
     }
 }
 
-/// Takes a node for the upper half of the children, which are leaves.
-#[tactic(auto, using(crate::proofs::Results::none_left))]
-pub(crate) fn finish_leaves<L: Leaf>(
-    settled: Settled<L>,
-    spares: &mut Vec<Box<Node<L>>>,
-) -> Outcome<Node<L>>
-    requires { CanFinish L.entry L.enough 0 leaf_tree (length spares.old.items) settled }
-    ensures { IsFinished leaf_tree node_tree (length spares.old.items) (length spares.new.items) settled result }
-{
-    match settled {
-        Settled::Refused => Outcome::Refused,
-        Settled::Same => Outcome::Same,
-        Settled::Changed(entry) => Outcome::Changed(entry),
-        Settled::Split(half) => {
-            let Upper {
-                low,
-                high,
-                entries,
-                slots,
-            } = half;
-            let Some(mut upper) = spares.pop() else {
-                unreachable!()
-            };
-            *upper = Node {
-                entries,
-                kids: Kids::Leaves(slots),
-            };
-            Outcome::Split(Halves { low, high, upper })
-        }
-    }
-}
-
-/// Takes a node for the upper half of the children, which are nodes.
-#[tactic(auto, using(crate::proofs::Results::none_left))]
-pub(crate) fn finish_nodes<L: Leaf>(
-    settled: Settled<Node<L>>,
-    spares: &mut Vec<Box<Node<L>>>,
-) -> Outcome<Node<L>>
-    requires { CanFinish L.entry L.enough 2 node_tree (length spares.old.items) settled }
-    ensures { IsFinished node_tree node_tree (length spares.old.items) (length spares.new.items) settled result }
-{
-    match settled {
-        Settled::Refused => Outcome::Refused,
-        Settled::Same => Outcome::Same,
-        Settled::Changed(entry) => Outcome::Changed(entry),
-        Settled::Split(half) => {
-            let Upper {
-                low,
-                high,
-                entries,
-                slots,
-            } = half;
-            let Some(mut upper) = spares.pop() else {
-                unreachable!()
-            };
-            *upper = Node {
-                entries,
-                kids: Kids::Nodes(slots),
-            };
-            Outcome::Split(Halves { low, high, upper })
-        }
-    }
-}
-
 /// Returns the number of nodes to be allocated if a child of a node is split: one more if the node is full.
+#[inline(always)]
 pub(crate) fn full_with(len: usize, full: usize) -> usize
     ensures some { 16 ≤ len → 1 ≤ result }
     ensures more { 16 ≤ len → result < 18446744073709551615 → result ≡ full + 1 }
@@ -214,6 +176,7 @@ pub(crate) fn full_with(len: usize, full: usize) -> usize
 }
 
 /// Changes the child `i` of a node, a leaf.
+#[inline(always)]
 fn edit_leaves<L: Leaf, E: Edit<L>>(
     entries: &mut Entries,
     slots: &mut [Option<Box<L>>; FANOUT],
@@ -241,13 +204,13 @@ fn edit_leaves<L: Leaf, E: Edit<L>>(
     let full = full_with(entries.len(), full);
     let was = entries.entry(i);
     let outcome = edit_leaf_at(slots, i, was, edit, full, spares, alloc, count)?;
-    let settled = settle(entries, slots, i, outcome);
-    Ok(finish_leaves(settled, spares))
+    Ok(settle_leaves(entries, slots, i, outcome, spares))
 }
 
 /// Changes the child `i`, a node.
 #[cycle(edit)]
 #[tactic(auto, using(crate::proofs::Dense::not_empty, crate::proofs::Dense::rewritten_dense))]
+#[inline(always)]
 fn edit_node_at<L: Leaf, E: Edit<L>>(
     slots: &mut [Option<Box<Node<L>>>; FANOUT],
     i: usize,
@@ -282,6 +245,7 @@ fn edit_node_at<L: Leaf, E: Edit<L>>(
 
 /// Changes the child `i` of a node, a node.
 #[cycle(edit)]
+#[inline(always)]
 fn edit_nodes<L: Leaf, E: Edit<L>>(
     entries: &mut Entries,
     slots: &mut [Option<Box<Node<L>>>; FANOUT],
@@ -309,8 +273,7 @@ fn edit_nodes<L: Leaf, E: Edit<L>>(
 {
     let full = full_with(entries.len(), full);
     let outcome = edit_node_at(slots, i, key, edit, full, spares, alloc, count)?;
-    let settled = settle(entries, slots, i, outcome);
-    Ok(finish_nodes(settled, spares))
+    Ok(settle_nodes(entries, slots, i, outcome, spares))
 }
 
 /// Changes the leaf to which a key belongs, below a node. If the node is split, then its upper half is

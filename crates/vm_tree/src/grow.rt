@@ -2,7 +2,7 @@
 ghost use Rattle.std.specs.Prelude.{◌≡◌, ◌+◌, ◌<◌, ◌≤◌, ◌++◌, [], length, true, false};
 ghost use Rattle.std.specs.List.{insert};
 ghost use Rattle.vm_tree.specs.Slots.{held, IsDense};
-ghost use Rattle.vm_tree.specs.Outcomes.{IsGrown, IsSettled};
+ghost use Rattle.vm_tree.specs.Outcomes.{IsGrown, IsNoted, IsSettled};
 
 use crate::entries::{Entries, Entry, FANOUT};
 use crate::outcome::{Halves, Outcome, Settled, Upper};
@@ -98,6 +98,19 @@ pub(crate) fn is_same(a: &Entry, b: &Entry) -> bool
     a.at == b.at && a.longest == b.longest && a.alignments == b.alignments
 }
 
+/// Writes the entry of the child `i`. Returns the sum of all, or `None` if the entry is as before.
+#[inline(always)]
+pub(crate) fn note(entries: &mut Entries, i: usize, entry: Entry) -> Option<Entry>
+    requires { i < length entries.old }
+    ensures { IsNoted i entries.old entry entries.new result }
+{
+    if is_same(&entries.entry(i), &entry) {
+        return None;
+    }
+    entries.set_entry(i, entry);
+    Some(entries.sum())
+}
+
 /// Writes what was done with the child `i` into the node above it.
 pub(crate) fn settle<C: Drop>(
     entries: &mut Entries,
@@ -114,13 +127,10 @@ pub(crate) fn settle<C: Drop>(
     match outcome {
         Outcome::Refused => Settled::Refused,
         Outcome::Same => Settled::Same,
-        Outcome::Changed(entry) => {
-            if is_same(&entries.entry(i), &entry) {
-                return Settled::Same;
-            }
-            entries.set_entry(i, entry);
-            Settled::Changed(entries.sum())
-        }
+        Outcome::Changed(entry) => match note(entries, i, entry) {
+            None => Settled::Same,
+            Some(sum) => Settled::Changed(sum),
+        },
         Outcome::Split(halves) => {
             let Halves { low, high, upper } = halves;
             entries.set_entry(i, low);

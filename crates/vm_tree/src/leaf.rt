@@ -56,15 +56,14 @@ pub trait Edit<L: Leaf> {
 
     ghost lacks: { Self → L → Type 0 };
 
-    /// Changes a leaf, beside which `was` is stored.
+    /// Changes a leaf, beside which `was` is stored. If the leaf is a root, then `was` is not its entry.
     fn change(&mut self, leaf: &mut L, was: Entry) -> Change
         requires can { can_change self.old leaf.old }
-        requires was { was ≡ L.entry leaf.old }
         ensures refused { result ≡ Change.Refused → (leaf.new ≡ leaf.old) × refuses self.old leaf.old self.new }
         ensures full { result ≡ Change.Full → (leaf.new ≡ leaf.old) × (self.new ≡ self.old) × can_split self.old leaf.old }
         ensures memory { result ≡ Change.OutOfMemory → (leaf.new ≡ leaf.old) × (self.new ≡ self.old) × needs_memory self.old leaf.old × lacks self.old leaf.old }
         ensures needs { result ≡ Change.Full → needs_memory self.old leaf.old }
-        ensures same { result ≡ Change.Same → (L.entry leaf.new ≡ L.entry leaf.old) × edits self.old leaf.old self.new (leaf.new ∷ []) }
+        ensures same { result ≡ Change.Same → (was ≡ L.entry leaf.old → L.entry leaf.new ≡ L.entry leaf.old) × edits self.old leaf.old self.new (leaf.new ∷ []) }
         ensures changed { result ≡ Change.Changed → edits self.old leaf.old self.new (leaf.new ∷ []) }
         ensures enough { L.enough leaf.old → L.enough leaf.new };
 

@@ -21,6 +21,7 @@ mod outcome;
 mod read;
 mod search;
 mod seek;
+mod settle;
 mod shrink;
 mod slots;
 mod tree;

@@ -37,14 +37,14 @@ pub trait Seek<L: Leaf> {
         ensures { result ≡ (seeking self.now).fits entry.now };
 
     /// Changes the leaf, beside which `was` is stored, if it has a place. Returns `None` if it has none.
+    /// If the leaf is a root, then `was` is not its entry.
     fn seek(&mut self, leaf: &mut L, was: Entry) -> Option<Change>
-        requires was { was ≡ L.entry leaf.old }
         ensures none { IfNone result ((leaf.new ≡ leaf.old) × (self.new ≡ self.old) × (seeking self.old).lacks leaf.old) }
         ensures refused { result ≡ Some Change.Refused → (leaf.new ≡ leaf.old) × refuses self.old leaf.old self.new }
         ensures full { result ≡ Some Change.Full → (leaf.new ≡ leaf.old) × can_split self.new leaf.old × needs_memory self.old leaf.old
             × ((e : Self) (ls : List L) → edits self.new leaf.old e ls → edits self.old leaf.old e ls) }
         ensures memory { result ≡ Some Change.OutOfMemory → (leaf.new ≡ leaf.old) × needs_memory self.old leaf.old }
-        ensures same { result ≡ Some Change.Same → (L.entry leaf.new ≡ L.entry leaf.old) × edits self.old leaf.old self.new (leaf.new ∷ []) }
+        ensures same { result ≡ Some Change.Same → (was ≡ L.entry leaf.old → L.entry leaf.new ≡ L.entry leaf.old) × edits self.old leaf.old self.new (leaf.new ∷ []) }
         ensures changed { result ≡ Some Change.Changed → edits self.old leaf.old self.new (leaf.new ∷ []) }
         ensures enough { L.enough leaf.old → L.enough leaf.new };
 

@@ -1,26 +1,51 @@
 //! A search for the leaf with the place closest to an end, its change, and what it changes above it.
-ghost use Rattle.std.specs.Prelude.{◌≡◌, ◌+◌, ◌<◌, ◌≤◌, ◌∷◌, [], length, map, IfOk, OnErr, IfSome, IfNone};
+ghost use Rattle.std.specs.Prelude.{◌≡◌, ◌+◌, ◌<◌, ◌≤◌, ◌∷◌, [], length, map, IfOk, OnOk, OnErr, IfSome, IfNone};
 ghost use Rattle.vm_tree.specs.Subtree.{leaf_of, leaves_of, kids, over, nth_tree};
 ghost use Rattle.vm_tree.specs.Slots.{held, IsDense};
 ghost use Rattle.vm_tree.specs.Nodes.{leaf_tree, node_tree, kids_of, AreUnder};
 ghost use Rattle.vm_tree.specs.Over.{IsOver};
 ghost use Rattle.vm_tree.specs.Found.{HasKid};
 ghost use Rattle.vm_tree.specs.Grew.{HasSpares};
-ghost use Rattle.vm_tree.specs.Sought.{MayEnter, Sought, SoughtAt, SoughtIn, FailedSought, FailedSoughtAt, FailedSoughtIn};
+ghost use Rattle.vm_tree.specs.Seeking.{IsSeeking};
+ghost use Rattle.vm_tree.specs.Sought.{MayEnter, Sought, SoughtRoot, SoughtAt, SoughtIn, FailedSought, FailedSoughtAt, FailedSoughtIn};
 
-use crate::edit::{finish_leaves, finish_nodes, full_with, reserve_nodes};
+use crate::edit::{full_with, reserve_nodes};
 use crate::end::End;
-use crate::entries::{Entries, Entry, FANOUT};
-use crate::grow::settle;
+use crate::entries::{Entries, Entry, FANOUT, MOST};
 use crate::leaf::{Change, Leaf};
 use crate::node::{Kids, Node};
 use crate::outcome::{Halves, Outcome};
 use crate::search::Seek;
+use crate::settle::{settle_leaves, settle_nodes};
 use crate::window::{kid_count, low_kid, next_kid};
 use std::alloc::{AllocError, Global};
 
+/// Splits a leaf that has no room for the place of a search. Before the change there are `full` nodes in `spares`.
+#[inline(never)]
+fn split_sought<L: Leaf, S: Seek<L>>(
+    leaf: &mut L,
+    seek: &mut S,
+    full: usize,
+    spares: &mut Vec<Box<Node<L>>>,
+    alloc: Global,
+) -> Result<Halves<L>, AllocError>
+    requires { S.can_split seek.old leaf.old }
+    ensures edited { IfOk result (λ h. S.edits seek.old leaf.old seek.new (leaf.new ∷ h.upper.value ∷ [])) }
+    ensures enough { IfOk result (λ h. L.enough leaf.new × L.enough h.upper.value) }
+    ensures entries { IfOk result (λ h. (h.low ≡ L.entry leaf.new) × (h.high ≡ L.entry h.upper.value)) }
+    ensures spares { OnOk result (full ≤ length spares.new.items) }
+    ensures unchanged { OnErr result (leaf.new ≡ leaf.old) }
+{
+    reserve_nodes(spares, full, alloc)?;
+    let upper = seek.split(leaf, alloc)?;
+    let low = leaf.entry();
+    let high = upper.entry();
+    Ok(Halves { low, high, upper })
+}
+
 /// Changes a leaf if it has a place. It is split if it has no room: then `full` nodes are allocated before the
 /// change.
+#[inline(always)]
 pub(crate) fn seek_leaf<L: Leaf, S: Seek<L>>(
     leaf: &mut L,
     was: Entry,
@@ -46,18 +71,45 @@ pub(crate) fn seek_leaf<L: Leaf, S: Seek<L>>(
         Change::Same => Ok(Some(Outcome::Same)),
         Change::Changed => Ok(Some(Outcome::Changed(leaf.entry()))),
         Change::OutOfMemory => Err(AllocError),
-        Change::Full => {
-            reserve_nodes(spares, full, alloc)?;
-            let upper = seek.split(leaf, alloc)?;
-            let low = leaf.entry();
-            let high = upper.entry();
-            Ok(Some(Outcome::Split(Halves { low, high, upper })))
+        Change::Full => Ok(Some(Outcome::Split(split_sought(leaf, seek, full, spares, alloc)?))),
+    }
+}
+
+/// Changes a leaf that is a root if it has a place. It is entered if its summary does not exclude a place.
+#[inline(always)]
+pub(crate) fn seek_root<L: Leaf, S: Seek<L>>(
+    leaf: &mut L,
+    seek: &mut S,
+    spares: &mut Vec<Box<Node<L>>>,
+    alloc: Global,
+    count: &mut u64,
+) -> Result<Option<Outcome<L>>, AllocError>
+    requires lawful { IsSeeking L.entry (S.seeking seek.old) }
+    requires runs { (S.seeking seek.old).runs (leaf.old ∷ []) }
+    ensures sought { IfOk result (λ r. SoughtRoot L.entry L.enough (S.seeking seek.old) count.old count.new (λ l. S.refuses seek.old l seek.new) (λ l ls. S.edits seek.old l seek.new ls) leaf_tree (leaf_of leaf.old) (leaf_of leaf.new) r) }
+    ensures same { IfOk result (λ r. IfNone r (seek.new ≡ seek.old)) }
+    ensures spares { IfOk result (λ r. IfSome r (λ o. HasSpares 1 (length spares.new.items) o)) }
+    ensures failed { OnErr result (FailedSought L.entry L.enough (S.seeking seek.old) count.old count.new (λ l. S.needs_memory seek.old l) (leaf_of leaf.old) (leaf_of leaf.new)) }
+{
+    let Some(change) = seek.seek(leaf, MOST) else {
+        if seek.fits(&leaf.entry()) {
+            *count = count.saturating_add(1);
         }
+        return Ok(None);
+    };
+    *count = count.saturating_add(1);
+    match change {
+        Change::Refused => Ok(Some(Outcome::Refused)),
+        Change::Same => Ok(Some(Outcome::Same)),
+        Change::Changed => Ok(Some(Outcome::Same)),
+        Change::OutOfMemory => Err(AllocError),
+        Change::Full => Ok(Some(Outcome::Split(split_sought(leaf, seek, 1, spares, alloc)?))),
     }
 }
 
 /// Searches the child `i`, a leaf.
 #[tactic(auto, using(crate::proofs::Dense::not_empty, crate::proofs::Dense::rewritten_dense))]
+#[inline(always)]
 fn seek_leaf_at<L: Leaf, S: Seek<L>>(
     slots: &mut [Option<Box<L>>; FANOUT],
     i: usize,
@@ -88,6 +140,7 @@ fn seek_leaf_at<L: Leaf, S: Seek<L>>(
 }
 
 /// Searches the child `i` of a node, a leaf.
+#[inline(always)]
 fn seek_leaves<L: Leaf, S: Seek<L>>(
     entries: &mut Entries,
     slots: &mut [Option<Box<L>>; FANOUT],
@@ -112,13 +165,13 @@ fn seek_leaves<L: Leaf, S: Seek<L>>(
     let Some(outcome) = seek_leaf_at(slots, i, was, seek, full, spares, alloc, count)? else {
         return Ok(None);
     };
-    let settled = settle(entries, slots, i, outcome);
-    Ok(Some(finish_leaves(settled, spares)))
+    Ok(Some(settle_leaves(entries, slots, i, outcome, spares)))
 }
 
 /// Searches the child `i`, a node.
 #[cycle(seek)]
 #[tactic(auto, using(crate::proofs::Dense::not_empty, crate::proofs::Dense::rewritten_dense))]
+#[inline(always)]
 fn seek_node_at<L: Leaf, S: Seek<L>>(
     slots: &mut [Option<Box<Node<L>>>; FANOUT],
     i: usize,
@@ -149,6 +202,7 @@ fn seek_node_at<L: Leaf, S: Seek<L>>(
 
 /// Searches the child `i` of a node, a node.
 #[cycle(seek)]
+#[inline(always)]
 fn seek_nodes<L: Leaf, S: Seek<L>>(
     entries: &mut Entries,
     slots: &mut [Option<Box<Node<L>>>; FANOUT],
@@ -172,12 +226,12 @@ fn seek_nodes<L: Leaf, S: Seek<L>>(
     let Some(outcome) = seek_node_at(slots, i, seek, full, spares, alloc, count)? else {
         return Ok(None);
     };
-    let settled = settle(entries, slots, i, outcome);
-    Ok(Some(finish_nodes(settled, spares)))
+    Ok(Some(settle_nodes(entries, slots, i, outcome, spares)))
 }
 
 /// Searches the child `i` of a node.
 #[cycle(seek)]
+#[inline(always)]
 fn seek_kid<L: Leaf, S: Seek<L>>(
     entries: &mut Entries,
     kids: &mut Kids<L>,
@@ -205,6 +259,7 @@ fn seek_kid<L: Leaf, S: Seek<L>>(
 
 /// Searches the children of a node: those in the window whose summary does not exclude a place, from an end.
 #[cycle(seek)]
+#[inline(always)]
 fn seek_kids<L: Leaf, S: Seek<L>>(
     entries: &mut Entries,
     kids: &mut Kids<L>,

@@ -169,6 +169,25 @@ impl<L: Leaf> Tree<L> {
         }
     }
 
+    /// Returns the only leaf, or `None` if there is none or the root is a node.
+    #[inline(always)]
+    pub fn only_leaf(&self) -> Option<&L>
+        ensures one { IfSome result (λ leaf. self.now.leaves ≡ leaf.now ∷ []) }
+        ensures none { IfNone result (0 < length self.now.leaves → 2 ≤ self.now.height) }
+    {
+        match &self.root {
+            Root::Empty => None,
+            Root::Leaf(leaf) => {
+                let leaf: &L = leaf;
+                Some(leaf)
+            }
+            Root::Inner(node) => {
+                node.facts();
+                None
+            }
+        }
+    }
+
     /// Returns the leaf to which a key belongs, if there is one.
     #[tactic(auto, using(crate::proofs::Finds::leaf_found))]
     pub fn leaf_at(&self, key: u64) -> Option<&L>

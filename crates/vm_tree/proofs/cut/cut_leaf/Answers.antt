@@ -8,12 +8,12 @@ returns-in-Refused-clause-shrank g c = λ key.
 
 pub returns-in-Same-clause-shrank : goal.returns-in-Same-clause-shrank
 returns-in-Same-clause-shrank g c = λ key.
-    let r = c.in-Same.ensures.same refl in leaf_same _ _ key _ _ _ _ r.2 r.1 r.0
+    let r = c.in-Same.ensures.same refl in leaf_same _ _ key _ _ _ _ r.2 r.1 (r.0 c.requires)
 
 pub returns-in-Changed-clause-shrank : goal.returns-in-Changed-clause-shrank
 returns-in-Changed-clause-shrank g c = λ key.
-    let r = c.in-Changed.ensures.changed refl in leaf_full _ _ key _ _ _ _ _ r.1 r.0 c.entry.ensures
+    let r = c.in-Changed.ensures.changed _ refl in leaf_full _ _ key _ _ _ _ _ r.2 r.1 (r.0 c.requires)
 
 pub returns-in-Small-clause-shrank : goal.returns-in-Small-clause-shrank
 returns-in-Small-clause-shrank g c = λ key.
-    leaf_small _ _ key _ _ _ _ _ (c.in-Small.ensures.small refl).0 c.entry-in-Small.ensures
+    let r = c.in-Small.ensures.small _ refl in leaf_small _ _ key _ _ _ _ _ r.1 (r.0 c.requires)

@@ -1,5 +1,5 @@
 use Rattle.std.proofs.Common.{rules, ◌≡◌, ◌+◌, ◌<◌, length, map, arith, ap, subst, sym, ◌∙◌, refl}
-use Rattle.std.proofs.lemmas.List.{length-map}
+use Rattle.std.proofs.lemmas.List.{length-map, length-set}
 use Rattle.vm_tree.specs.Slots.{held}
 use Rattle.vm_tree.specs.Subtree.{Subtree, kids, front, nth_tree, Ascend}
 use Rattle.vm_tree.specs.Nodes.{leaf_tree, node_tree, kids_of}
@@ -128,20 +128,32 @@ edit_nodes-returns-in_err-outcome-clause-count g t c =
     let y = (full_at g.L.Leaf.enough (front ss) ss c.args.i o.even (omega (arith, n, c.requires.within))).height in
     record { upto = omega (arith, x, y); from = omega (arith, x, y) }
 
-pub edit_nodes-finish_nodes-requires : goal.edit_nodes-finish_nodes-requires
-edit_nodes-finish_nodes-requires g t c =
+pub edit_nodes-settle_nodes-requires : goal.edit_nodes-settle_nodes-requires
+edit_nodes-settle_nodes-requires g t c =
     let ss = map node_tree (held c.args.slots.now) in
     let o = c.requires.over in
     let n : length c.args.entries.now ≡ length ss = ap length o.entries ∙ length-entries g.L.Leaf.entry ss in
     let at = AtKey g.L.Leaf.entry c.args.key in
-    let lift = key_lifts g.L.Leaf.entry c.args.key g.L.Leaf.enough ss (front ss) o.even c.args.entries.now o.entries c.args.i c.requires.within c.requires.from c.requires.upto in (
+    let lift = key_lifts g.L.Leaf.entry c.args.key g.L.Leaf.enough ss (front ss) o.even c.args.entries.now o.entries c.args.i c.requires.within c.requires.from c.requires.upto in
+    let w = c.in_ok-outcome.ensures.grew in
+    let m = ap length w.list ∙ length-set ss c.args.i w.new in
+    let z = length-map (held c.edit_node_at.new.slots) node_tree in (
       omega arith,
       (
         omega arith,
-        can_finish g.L.Leaf.entry g.L.Leaf.enough at at _ _ node_tree c.args.i ss o.even (omega (arith, n, c.requires.within)) lift c.args.entries.now
-            o.entries (held c.edit_node_at.new.slots) c.in_ok-outcome.outcome c.settle-settled.result c.settle-settled.new.entries
-            c.settle-settled.new.slots c.in_ok-outcome.ensures.grew c.settle-settled.ensures.settled c.settle-settled.ensures.dense 2 o.deep
-            c.full_with-full.result _ c.in_ok-outcome.ensures.spares (λ k. c.full_with-full.ensures.some (omega (arith, k, c.len.ensures.value))),
+        (
+          c.edit_node_at.ensures.dense,
+          (
+            omega (arith, n, m, z),
+            (
+              c.requires.within,
+              λ fs os r d k. can_finish g.L.Leaf.entry g.L.Leaf.enough at at _ _ node_tree c.args.i ss o.even (omega (arith, n, c.requires.within)) lift c.args.entries.now
+                  o.entries (held c.edit_node_at.new.slots) c.in_ok-outcome.outcome r fs
+                  os c.in_ok-outcome.ensures.grew k d 2 o.deep
+                  c.full_with-full.result _ c.in_ok-outcome.ensures.spares (λ k. c.full_with-full.ensures.some (omega (arith, k, c.len.ensures.value))),
+            ),
+          ),
+        ),
       ),
     )
 
@@ -153,8 +165,8 @@ edit_nodes-returns-clause-over g t c =
     let at = AtKey g.L.Leaf.entry c.args.key in
     let lift = key_lifts g.L.Leaf.entry c.args.key g.L.Leaf.enough ss (front ss) o.even c.args.entries.now o.entries c.args.i c.requires.within c.requires.from c.requires.upto in
     over_done g.L.Leaf.entry g.L.Leaf.enough at at _ _ node_tree c.args.i ss o.even (omega (arith, n, c.requires.within)) lift c.args.entries.now
-    o.entries (held c.edit_node_at.new.slots) c.in_ok-outcome.outcome c.settle-settled.result c.settle-settled.new.entries
-    c.settle-settled.new.slots c.in_ok-outcome.ensures.grew c.settle-settled.ensures.settled c.settle-settled.ensures.dense 2 o.deep
+    o.entries (held c.edit_node_at.new.slots) c.in_ok-outcome.outcome c.settle_nodes.ensures.settled.settled c.settle_nodes.new.entries
+    c.settle_nodes.new.slots c.in_ok-outcome.ensures.grew c.settle_nodes.ensures.settled.is c.settle_nodes.ensures.dense 2 o.deep
 
 pub edit_nodes-returns-clause-grew : goal.edit_nodes-returns-clause-grew
 edit_nodes-returns-clause-grew g t c =
@@ -164,9 +176,9 @@ edit_nodes-returns-clause-grew g t c =
     let at = AtKey g.L.Leaf.entry c.args.key in
     let lift = key_lifts g.L.Leaf.entry c.args.key g.L.Leaf.enough ss (front ss) o.even c.args.entries.now o.entries c.args.i c.requires.within c.requires.from c.requires.upto in
     grew_done g.L.Leaf.entry g.L.Leaf.enough at at _ _ node_tree c.args.i ss o.even (omega (arith, n, c.requires.within)) lift c.args.entries.now
-    o.entries (held c.edit_node_at.new.slots) c.in_ok-outcome.outcome c.settle-settled.result c.settle-settled.new.entries
-    c.settle-settled.new.slots c.in_ok-outcome.ensures.grew c.settle-settled.ensures.settled c.settle-settled.ensures.dense 2 o.deep
-    node_tree _ _ c.finish_nodes.result c.finish_nodes.ensures
+    o.entries (held c.edit_node_at.new.slots) c.in_ok-outcome.outcome c.settle_nodes.ensures.settled.settled c.settle_nodes.new.entries
+    c.settle_nodes.new.slots c.in_ok-outcome.ensures.grew c.settle_nodes.ensures.settled.is c.settle_nodes.ensures.dense 2 o.deep
+    node_tree _ _ c.settle_nodes.result c.settle_nodes.ensures.settled.finished
 
 pub edit_nodes-returns-clause-count : goal.edit_nodes-returns-clause-count
 edit_nodes-returns-clause-count g t c =

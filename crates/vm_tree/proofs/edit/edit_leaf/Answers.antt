@@ -9,43 +9,32 @@ returns-in-Refused-clause-grew g c = λ key.
 
 pub returns-in-Same-clause-grew : goal.returns-in-Same-clause-grew
 returns-in-Same-clause-grew g c = λ key.
-    let r = c.in-Same.ensures.same refl in leaf_same _ _ _ _ _ _ (at_key _ key _) _ c.change.ensures.enough r.1 r.0
+    let r = c.in-Same.ensures.same refl in leaf_same _ _ _ _ _ _ (at_key _ key _) _ c.change.ensures.enough r.1 (r.0 c.requires.was)
 
 pub returns-in-Changed-clause-grew : goal.returns-in-Changed-clause-grew
 returns-in-Changed-clause-grew g c = λ key.
     leaf_changed _ _ _ _ _ _ (at_key _ key _) _ _ c.change.ensures.enough (c.in-Changed.ensures.changed refl) c.entry.ensures
 
-pub returns-in_ok-upper-in-Full-clause-grew : goal.returns-in_ok-upper-in-Full-clause-grew
-returns-in_ok-upper-in-Full-clause-grew g c = λ key.
-    let r = c.in-Full.ensures.full refl in
-    let s = c.in_ok-upper-in-Full.ensures in
-    let e = rw (r.1, r.0) at s.edited in
-    leaf_split _ _ _ _ _ _ (at_key _ key _) _ _ _ _ s.enough.0 s.enough.1 e c.entry-low.ensures (c.entry-high.ensures ∙ ap g.L.Leaf.entry c.deref.ensures)
+pub returns-in_ok-split_leaf-in-Full-clause-grew : goal.returns-in_ok-split_leaf-in-Full-clause-grew
+returns-in_ok-split_leaf-in-Full-clause-grew g c = λ key.
+    let r = c.in-Full.ensures.full refl in rw (r.1, r.0) at c.in_ok-split_leaf-in-Full.ensures.split key
 
-pub returns-in_err-reserve_nodes-in-Full-clause-failed : goal.returns-in_err-reserve_nodes-in-Full-clause-failed
-returns-in_err-reserve_nodes-in-Full-clause-failed g c = λ key.
+pub returns-in_err-split_leaf-in-Full-clause-failed : goal.returns-in_err-split_leaf-in-Full-clause-failed
+returns-in_err-split_leaf-in-Full-clause-failed g c = λ key.
     let r = c.in-Full.ensures.full refl in
-    on_any c.from_residual.result _ (leaf_kept _ _ _ _ _ _ (at_key _ key _) _ r.0 (c.in-Full.ensures.needs refl))
+    on_any c.from_residual.result _
+    (leaf_kept _ _ _ _ _ _ (at_key _ key _) _ (c.in_err-split_leaf-in-Full.ensures.unchanged.0 ∙ r.0) (c.in-Full.ensures.needs refl))
 
-pub returns-in_err-upper-in-Full-clause-failed : goal.returns-in_err-upper-in-Full-clause-failed
-returns-in_err-upper-in-Full-clause-failed g c = λ key.
+pub returns-in_err-split_leaf-in-Full-clause-spare : goal.returns-in_err-split_leaf-in-Full-clause-spare
+returns-in_err-split_leaf-in-Full-clause-spare g c = λ key p.
     let r = c.in-Full.ensures.full refl in
-    on_any c.from_residual-in_err-upper-in-Full.result _
-    (leaf_kept _ _ _ _ _ _ (at_key _ key _) _ (c.in_err-upper-in-Full.ensures.unchanged.0 ∙ r.0) (c.in-Full.ensures.needs refl))
+    let k = rw (r.1, r.0) at c.in_err-split_leaf-in-Full.ensures.lacks p in
+    on_any c.from_residual.result _
+    (leaf_kept _ _ _ _ _ _ (at_key _ key _) _ (c.in_err-split_leaf-in-Full.ensures.unchanged.0 ∙ r.0) k)
 
 pub returns-in-OutOfMemory-clause-failed : goal.returns-in-OutOfMemory-clause-failed
 returns-in-OutOfMemory-clause-failed g c = λ key.
     let r = c.in-OutOfMemory.ensures.memory refl in leaf_kept _ _ _ _ _ _ (at_key _ key _) _ r.0 r.2
-
-pub returns-in_err-reserve_nodes-in-Full-clause-spare : goal.returns-in_err-reserve_nodes-in-Full-clause-spare
-returns-in_err-reserve_nodes-in-Full-clause-spare g c = λ key p. absurd (omega (arith, p, c.in_err-reserve_nodes-in-Full.ensures.few))
-
-pub returns-in_err-upper-in-Full-clause-spare : goal.returns-in_err-upper-in-Full-clause-spare
-returns-in_err-upper-in-Full-clause-spare g c = λ key p.
-    let r = c.in-Full.ensures.full refl in
-    let k = rw (r.1, r.0) at c.in_err-upper-in-Full.ensures.lacks in
-    on_any c.from_residual-in_err-upper-in-Full.result _
-    (leaf_kept _ _ _ _ _ _ (at_key _ key _) _ (c.in_err-upper-in-Full.ensures.unchanged.0 ∙ r.0) k)
 
 pub returns-in-OutOfMemory-clause-spare : goal.returns-in-OutOfMemory-clause-spare
 returns-in-OutOfMemory-clause-spare g c = λ key p.

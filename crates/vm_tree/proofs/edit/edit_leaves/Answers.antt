@@ -14,30 +14,32 @@ use Rattle.vm_tree.specs.declared.outcome.Settled.TheVariants as settled
 use Rattle.vm_tree.proofs.Results.{on_any}
 use Rattle.vm_tree.proofs.edit.edit_leaves.Goals as goal
 
-pub settle-settled-requires : goal.settle-settled-requires
-settle-settled-requires g c =
-    let ss = map leaf_tree (held c.args.slots.now) in
-    let o = c.requires.over in
-    let n : length c.args.entries.now ≡ length ss = ap length o.entries ∙ length-entries g.L.Leaf.entry ss in
-    let w = c.in_ok-outcome.ensures.grew c.args.key in
-    let m = ap length w.list ∙ length-set ss c.args.i w.new in
-    let k = length-map (held c.edit_leaf_at.new.slots) leaf_tree in
-    (omega arith, (omega arith, (c.edit_leaf_at.ensures.dense, (omega (arith, n, m, k), c.requires.within))))
-
-pub finish_leaves-requires : goal.finish_leaves-requires
-finish_leaves-requires g c =
+pub settle_leaves-requires : goal.settle_leaves-requires
+settle_leaves-requires g c =
     let ss = map leaf_tree (held c.args.slots.now) in
     let o = c.requires.over in
     let n : length c.args.entries.now ≡ length ss = ap length o.entries ∙ length-entries g.L.Leaf.entry ss in
     let at = AtKey g.L.Leaf.entry c.args.key in
-    let lift = key_lifts g.L.Leaf.entry c.args.key g.L.Leaf.enough ss (front ss) o.even c.args.entries.now o.entries c.args.i c.requires.within c.requires.from c.requires.upto in (
+    let lift = key_lifts g.L.Leaf.entry c.args.key g.L.Leaf.enough ss (front ss) o.even c.args.entries.now o.entries c.args.i c.requires.within c.requires.from c.requires.upto in
+    let w = c.in_ok-outcome.ensures.grew c.args.key in
+    let m = ap length w.list ∙ length-set ss c.args.i w.new in
+    let z = length-map (held c.edit_leaf_at.new.slots) leaf_tree in (
       omega arith,
       (
         omega arith,
-        can_finish g.L.Leaf.entry g.L.Leaf.enough at at _ _ leaf_tree c.args.i ss o.even (omega (arith, n, c.requires.within)) lift c.args.entries.now
-            o.entries (held c.edit_leaf_at.new.slots) c.in_ok-outcome.outcome c.settle-settled.result c.settle-settled.new.entries
-            c.settle-settled.new.slots (c.in_ok-outcome.ensures.grew c.args.key) c.settle-settled.ensures.settled c.settle-settled.ensures.dense 0 (omega arith)
-            c.full_with-full.result _ c.in_ok-outcome.ensures.spares (λ k. c.full_with-full.ensures.some (omega (arith, k, c.len.ensures.value))),
+        (
+          c.edit_leaf_at.ensures.dense,
+          (
+            omega (arith, n, m, z),
+            (
+              c.requires.within,
+              λ fs os r d k. can_finish g.L.Leaf.entry g.L.Leaf.enough at at _ _ leaf_tree c.args.i ss o.even (omega (arith, n, c.requires.within)) lift c.args.entries.now
+                  o.entries (held c.edit_leaf_at.new.slots) c.in_ok-outcome.outcome r fs
+                  os (c.in_ok-outcome.ensures.grew c.args.key) k d 0 (omega arith)
+                  c.full_with-full.result _ c.in_ok-outcome.ensures.spares (λ k. c.full_with-full.ensures.some (omega (arith, k, c.len.ensures.value))),
+            ),
+          ),
+        ),
       ),
     )
 
@@ -49,8 +51,8 @@ returns-clause-over g c =
     let at = AtKey g.L.Leaf.entry c.args.key in
     let lift = key_lifts g.L.Leaf.entry c.args.key g.L.Leaf.enough ss (front ss) o.even c.args.entries.now o.entries c.args.i c.requires.within c.requires.from c.requires.upto in
     over_done g.L.Leaf.entry g.L.Leaf.enough at at _ _ leaf_tree c.args.i ss o.even (omega (arith, n, c.requires.within)) lift c.args.entries.now
-    o.entries (held c.edit_leaf_at.new.slots) c.in_ok-outcome.outcome c.settle-settled.result c.settle-settled.new.entries
-    c.settle-settled.new.slots (c.in_ok-outcome.ensures.grew c.args.key) c.settle-settled.ensures.settled c.settle-settled.ensures.dense 0 (omega arith)
+    o.entries (held c.edit_leaf_at.new.slots) c.in_ok-outcome.outcome c.settle_leaves.ensures.settled.settled c.settle_leaves.new.entries
+    c.settle_leaves.new.slots (c.in_ok-outcome.ensures.grew c.args.key) c.settle_leaves.ensures.settled.is c.settle_leaves.ensures.dense 0 (omega arith)
 
 pub returns-clause-grew : goal.returns-clause-grew
 returns-clause-grew g c =
@@ -60,9 +62,9 @@ returns-clause-grew g c =
     let at = AtKey g.L.Leaf.entry c.args.key in
     let lift = key_lifts g.L.Leaf.entry c.args.key g.L.Leaf.enough ss (front ss) o.even c.args.entries.now o.entries c.args.i c.requires.within c.requires.from c.requires.upto in
     grew_done g.L.Leaf.entry g.L.Leaf.enough at at _ _ leaf_tree c.args.i ss o.even (omega (arith, n, c.requires.within)) lift c.args.entries.now
-    o.entries (held c.edit_leaf_at.new.slots) c.in_ok-outcome.outcome c.settle-settled.result c.settle-settled.new.entries
-    c.settle-settled.new.slots (c.in_ok-outcome.ensures.grew c.args.key) c.settle-settled.ensures.settled c.settle-settled.ensures.dense 0 (omega arith)
-    node_tree _ _ c.finish_leaves.result c.finish_leaves.ensures
+    o.entries (held c.edit_leaf_at.new.slots) c.in_ok-outcome.outcome c.settle_leaves.ensures.settled.settled c.settle_leaves.new.entries
+    c.settle_leaves.new.slots (c.in_ok-outcome.ensures.grew c.args.key) c.settle_leaves.ensures.settled.is c.settle_leaves.ensures.dense 0 (omega arith)
+    node_tree _ _ c.settle_leaves.result c.settle_leaves.ensures.settled.finished
 
 pub edit_leaf_at-requires : goal.edit_leaf_at-requires
 edit_leaf_at-requires g c =

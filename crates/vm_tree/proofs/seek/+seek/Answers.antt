@@ -1,5 +1,5 @@
 use Rattle.std.proofs.Common.{rules, ◌≡◌, ◌<◌, length, map, Some, arith, ap, subst, sym, ◌∙◌, refl}
-use Rattle.std.proofs.lemmas.List.{length-map}
+use Rattle.std.proofs.lemmas.List.{length-map, length-set}
 use Rattle.vm_tree.specs.Slots.{held}
 use Rattle.vm_tree.specs.Subtree.{Subtree, kids, front, over, nth_tree}
 use Rattle.vm_tree.specs.Nodes.{node_tree, kids_of}
@@ -70,22 +70,33 @@ seek_nodes-seek_node_at-requires g t c κs within =
       ),
     )
 
-pub seek_nodes-finish_nodes-requires : goal.seek_nodes-finish_nodes-requires
-seek_nodes-finish_nodes-requires g t c =
+pub seek_nodes-settle_nodes-requires : goal.seek_nodes-settle_nodes-requires
+seek_nodes-settle_nodes-requires g t c =
     let ss = map node_tree (held c.args.slots.now) in
     let o = c.requires.over in
     let n : length c.args.entries.now ≡ length ss = ap length o.entries ∙ length-entries g.L.Leaf.entry ss in
     let at = AtNearest (g.S.Seek.seeking c.args.seek.now) c.args.count.now c.seek_node_at.new.count (nth_tree ss c.args.i) in
     let w = rw c.in-Some.is at c.in_ok-outcome.ensures.sought in
-    let p = rw c.in-Some.is at c.in_ok-outcome.ensures.spares in (
+    let p = rw c.in-Some.is at c.in_ok-outcome.ensures.spares in
+    let m = ap length w.list ∙ length-set ss c.args.i w.new in
+    let z = length-map (held c.seek_node_at.new.slots) node_tree in (
       omega arith,
       (
         omega arith,
-        can_finish g.L.Leaf.entry g.L.Leaf.enough at (IsInChild at c.args.i ss) _ _ node_tree c.args.i ss o.even (omega (arith, n, c.requires.within))
-            (in_child at c.args.i ss) c.args.entries.now
-            o.entries (held c.seek_node_at.new.slots) c.in-Some.outcome c.settle-settled.result c.settle-settled.new.entries
-            c.settle-settled.new.slots w c.settle-settled.ensures.settled c.settle-settled.ensures.dense 2 o.deep
-            c.full_with-full.result _ p (λ k. c.full_with-full.ensures.some (omega (arith, k, c.len.ensures.value))),
+        (
+          c.seek_node_at.ensures.dense,
+          (
+            omega (arith, n, m, z),
+            (
+              c.requires.within,
+              λ fs os r d k. can_finish g.L.Leaf.entry g.L.Leaf.enough at (IsInChild at c.args.i ss) _ _ node_tree c.args.i ss o.even (omega (arith, n, c.requires.within))
+                  (in_child at c.args.i ss) c.args.entries.now
+                  o.entries (held c.seek_node_at.new.slots) c.in-Some.outcome r fs
+                  os w k d 2 o.deep
+                  c.full_with-full.result _ p (λ k. c.full_with-full.ensures.some (omega (arith, k, c.len.ensures.value))),
+            ),
+          ),
+        ),
       ),
     )
 
@@ -97,8 +108,8 @@ seek_nodes-returns-clause-over g t c =
     let at = AtNearest (g.S.Seek.seeking c.args.seek.now) c.args.count.now c.seek_node_at.new.count (nth_tree ss c.args.i) in
     let w = rw c.in-Some.is at c.in_ok-outcome.ensures.sought in
     over_done g.L.Leaf.entry g.L.Leaf.enough at (IsInChild at c.args.i ss) _ _ node_tree c.args.i ss o.even (omega (arith, n, c.requires.within))
-    (in_child at c.args.i ss) c.args.entries.now o.entries (held c.seek_node_at.new.slots) c.in-Some.outcome c.settle-settled.result c.settle-settled.new.entries
-    c.settle-settled.new.slots w c.settle-settled.ensures.settled c.settle-settled.ensures.dense 2 o.deep
+    (in_child at c.args.i ss) c.args.entries.now o.entries (held c.seek_node_at.new.slots) c.in-Some.outcome c.settle_nodes.ensures.settled.settled c.settle_nodes.new.entries
+    c.settle_nodes.new.slots w c.settle_nodes.ensures.settled.is c.settle_nodes.ensures.dense 2 o.deep
 
 pub seek_nodes-returns-clause-sought : goal.seek_nodes-returns-clause-sought
 seek_nodes-returns-clause-sought g t c =
@@ -108,9 +119,9 @@ seek_nodes-returns-clause-sought g t c =
     let at = AtNearest (g.S.Seek.seeking c.args.seek.now) c.args.count.now c.seek_node_at.new.count (nth_tree ss c.args.i) in
     let w = rw c.in-Some.is at c.in_ok-outcome.ensures.sought in
     grew_done g.L.Leaf.entry g.L.Leaf.enough at (IsInChild at c.args.i ss) _ _ node_tree c.args.i ss o.even (omega (arith, n, c.requires.within))
-    (in_child at c.args.i ss) c.args.entries.now o.entries (held c.seek_node_at.new.slots) c.in-Some.outcome c.settle-settled.result c.settle-settled.new.entries
-    c.settle-settled.new.slots w c.settle-settled.ensures.settled c.settle-settled.ensures.dense 2 o.deep
-    node_tree _ _ c.finish_nodes.result c.finish_nodes.ensures
+    (in_child at c.args.i ss) c.args.entries.now o.entries (held c.seek_node_at.new.slots) c.in-Some.outcome c.settle_nodes.ensures.settled.settled c.settle_nodes.new.entries
+    c.settle_nodes.new.slots w c.settle_nodes.ensures.settled.is c.settle_nodes.ensures.dense 2 o.deep
+    node_tree _ _ c.settle_nodes.result c.settle_nodes.ensures.settled.finished
 
 pub seek_nodes-returns-in_err-outcome-clause-failed : goal.seek_nodes-returns-in_err-outcome-clause-failed
 seek_nodes-returns-in_err-outcome-clause-failed g t c =

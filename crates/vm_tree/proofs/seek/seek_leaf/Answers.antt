@@ -17,32 +17,26 @@ returns-in-Refused-clause-sought g c =
 pub returns-in-Same-clause-sought : goal.returns-in-Same-clause-sought
 returns-in-Same-clause-sought g c =
     let here = at_leaf g.L.Leaf.entry (g.S.Seek.seeking c.args.seek.now) _ _ c.args.leaf.now c.saturating_add.ensures in
-    let r = c.in-Some.ensures.same (ap Some c.in-Same.is) in leaf_same _ _ _ _ _ _ here _ c.seek.ensures.enough r.1 r.0
+    let r = c.in-Some.ensures.same (ap Some c.in-Same.is) in leaf_same _ _ _ _ _ _ here _ c.seek.ensures.enough r.1 (r.0 c.requires.was)
 
 pub returns-in-Changed-clause-sought : goal.returns-in-Changed-clause-sought
 returns-in-Changed-clause-sought g c =
     let here = at_leaf g.L.Leaf.entry (g.S.Seek.seeking c.args.seek.now) _ _ c.args.leaf.now c.saturating_add.ensures in
     leaf_changed _ _ _ _ _ _ here _ _ c.seek.ensures.enough (c.in-Some.ensures.changed (ap Some c.in-Changed.is)) c.entry.ensures
 
-pub returns-in_ok-upper-in-Full-clause-sought : goal.returns-in_ok-upper-in-Full-clause-sought
-returns-in_ok-upper-in-Full-clause-sought g c =
+pub returns-in_ok-split_sought-in-Full-clause-sought : goal.returns-in_ok-split_sought-in-Full-clause-sought
+returns-in_ok-split_sought-in-Full-clause-sought g c =
     let here = at_leaf g.L.Leaf.entry (g.S.Seek.seeking c.args.seek.now) _ _ c.args.leaf.now c.saturating_add.ensures in
     let r = c.in-Some.ensures.full (ap Some c.in-Full.is) in
-    let s = c.in_ok-upper-in-Full.ensures in
+    let s = c.in_ok-split_sought-in-Full.ensures in
     let e = rw r.0 at s.edited in
-    leaf_split _ _ _ _ _ _ here _ _ _ _ s.enough.0 s.enough.1 (r.3 _ _ e) c.entry-low.ensures (c.entry-high.ensures ∙ ap g.L.Leaf.entry c.deref.ensures)
+    leaf_split _ _ _ _ _ _ here _ _ _ _ s.enough.0 s.enough.1 (r.3 _ _ e) s.entries.0 s.entries.1
 
-pub returns-in_err-reserve_nodes-in-Full-clause-failed : goal.returns-in_err-reserve_nodes-in-Full-clause-failed
-returns-in_err-reserve_nodes-in-Full-clause-failed g c =
+pub returns-in_err-split_sought-in-Full-clause-failed : goal.returns-in_err-split_sought-in-Full-clause-failed
+returns-in_err-split_sought-in-Full-clause-failed g c =
     let here = at_leaf g.L.Leaf.entry (g.S.Seek.seeking c.args.seek.now) _ _ c.args.leaf.now c.saturating_add.ensures in
     let r = c.in-Some.ensures.full (ap Some c.in-Full.is) in
-    on_any c.from_residual.result _ (leaf_kept _ _ _ _ _ _ here _ r.0 r.2)
-
-pub returns-in_err-upper-in-Full-clause-failed : goal.returns-in_err-upper-in-Full-clause-failed
-returns-in_err-upper-in-Full-clause-failed g c =
-    let here = at_leaf g.L.Leaf.entry (g.S.Seek.seeking c.args.seek.now) _ _ c.args.leaf.now c.saturating_add.ensures in
-    let r = c.in-Some.ensures.full (ap Some c.in-Full.is) in
-    on_any c.from_residual-in_err-upper-in-Full.result _ (leaf_kept _ _ _ _ _ _ here _ (c.in_err-upper-in-Full.ensures.unchanged ∙ r.0) r.2)
+    on_any c.from_residual.result _ (leaf_kept _ _ _ _ _ _ here _ (c.in_err-split_sought-in-Full.ensures.unchanged ∙ r.0) r.2)
 
 pub returns-in-OutOfMemory-clause-failed : goal.returns-in-OutOfMemory-clause-failed
 returns-in-OutOfMemory-clause-failed g c =

@@ -4,20 +4,20 @@ use Rattle.vm_tree.specs.Found.{IsLeafOf}
 use Rattle.vm_tree.proofs.Finds.{leaf_found}
 use Rattle.vm_tree.specs.Edits.{IsRefused}
 use Rattle.vm_tree.specs.Nodes.{leaf_tree}
-use Rattle.vm_tree.proofs.Raises.{can_raise, after_root}
+use Rattle.vm_tree.proofs.Raises.{went_raise, went_root}
 use Rattle.vm_tree.proofs.tree.Tree.edit_with.Goals as goal
 
 pub leaf_root-requires : goal.leaf_root-requires
 leaf_root-requires g c = (
   omega arith,
-  can_raise g.L.Leaf.entry g.L.Leaf.enough _ _ _ leaf_tree _ _ c.in-Ok.outcome (c.in-Ok.ensures.grew c.args.key) _ 0 c.in-Ok.ensures.spares
+  went_raise g.L.Leaf.entry g.L.Leaf.enough _ _ _ leaf_tree _ _ c.in-Ok.outcome (c.in-Ok.ensures.went c.args.key) _ 0 c.in-Ok.ensures.spares
       (omega arith),
 )
 
 pub returns-in-Ok-clause-after : goal.returns-in-Ok-clause-after
 returns-in-Ok-clause-after g c =
     let w : c.args.self.now ≡ leaf_of c.in-Leaf.leaf.value = sym c.self.view_is ∙ search rules in
-    after_root g.L.Leaf.entry g.L.Leaf.enough _ _ _ leaf_tree _ _ c.in-Ok.outcome _ _ c.has_changed-done.result (c.in-Ok.ensures.grew c.args.key)
+    went_root g.L.Leaf.entry g.L.Leaf.enough _ _ _ leaf_tree _ _ c.in-Ok.outcome _ _ c.has_changed-done.result (c.in-Ok.ensures.went c.args.key)
     (w ∙ ap leaf_of (sym c.deref_mut.ensures.value)) c.leaf_root.ensures.tree c.has_changed-done.ensures
 
 pub edit_root-requires : goal.edit_root-requires

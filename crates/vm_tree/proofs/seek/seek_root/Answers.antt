@@ -1,0 +1,53 @@
+use Rattle.std.proofs.Common.{Some, ap, sym, ◌∙◌}
+use Rattle.vm_tree.specs.Subtree.{leaf_of}
+use Rattle.vm_tree.proofs.Leaves.{leaf_kept, leaf_one, leaf_split, one_entry}
+use Rattle.vm_tree.proofs.Soughts.{at_leaf, leaf_vain, not_entered}
+use Rattle.vm_tree.proofs.Results.{on_any}
+use Rattle.vm_tree.proofs.seek.seek_root.Goals.{then-fits, else-fits}
+use Rattle.vm_tree.proofs.seek.seek_root.Goals as goal
+
+pub returns-in_default-clause-sought : goal.returns-in_default-clause-sought
+returns-in_default-clause-sought g c =
+    let q = g.S.Seek.seeking c.args.seek.now in
+    let r = c.in_default.ensures.none in
+    elim c.if-fits.branch [
+      | then-fits w ↦
+          let fits = ap q.fits (one_entry g.L.Leaf.entry c.args.leaf.now ∙ sym (c.entry.ensures ∙ ap g.L.Leaf.entry r.0)) ∙ sym (rw r.1 at w.if-fits.ensures) in
+          rw w.count-is
+          (leaf_vain g.L.Leaf.entry q _ _ _ w.saturating_add.ensures _ (record { lawful = c.requires.lawful; runs = c.requires.runs; fits = fits }) r.0 r.2)
+      | else-fits w ↦ rw w.count-is (not_entered q _ _ _ (ap leaf_of r.0) (r.2, tt))
+    ]
+
+pub returns-in-Refused-clause-sought : goal.returns-in-Refused-clause-sought
+returns-in-Refused-clause-sought g c =
+    let here = at_leaf g.L.Leaf.entry (g.S.Seek.seeking c.args.seek.now) _ _ c.args.leaf.now c.saturating_add-2.ensures in
+    let r = c.in-Some.ensures.refused (ap Some c.in-Refused.is) in leaf_kept _ _ _ _ _ _ here _ r.0 r.1
+
+pub returns-in-Same-clause-sought : goal.returns-in-Same-clause-sought
+returns-in-Same-clause-sought g c =
+    let here = at_leaf g.L.Leaf.entry (g.S.Seek.seeking c.args.seek.now) _ _ c.args.leaf.now c.saturating_add-2.ensures in
+    leaf_one g.L.Leaf.entry _ _ (λ l. Unit {0}) _ _ here _ c.seek.ensures.enough (c.in-Some.ensures.same (ap Some c.in-Same.is)).1
+
+pub returns-in-Changed-clause-sought : goal.returns-in-Changed-clause-sought
+returns-in-Changed-clause-sought g c =
+    let here = at_leaf g.L.Leaf.entry (g.S.Seek.seeking c.args.seek.now) _ _ c.args.leaf.now c.saturating_add-2.ensures in
+    leaf_one g.L.Leaf.entry _ _ (λ l. Unit {0}) _ _ here _ c.seek.ensures.enough (c.in-Some.ensures.changed (ap Some c.in-Changed.is))
+
+pub returns-in_ok-split_sought-in-Full-clause-sought : goal.returns-in_ok-split_sought-in-Full-clause-sought
+returns-in_ok-split_sought-in-Full-clause-sought g c =
+    let here = at_leaf g.L.Leaf.entry (g.S.Seek.seeking c.args.seek.now) _ _ c.args.leaf.now c.saturating_add-2.ensures in
+    let r = c.in-Some.ensures.full (ap Some c.in-Full.is) in
+    let s = c.in_ok-split_sought-in-Full.ensures in
+    let e = rw r.0 at s.edited in
+    leaf_split _ _ _ _ _ _ here _ _ _ _ s.enough.0 s.enough.1 (r.3 _ _ e) s.entries.0 s.entries.1
+
+pub returns-in_err-split_sought-in-Full-clause-failed : goal.returns-in_err-split_sought-in-Full-clause-failed
+returns-in_err-split_sought-in-Full-clause-failed g c =
+    let here = at_leaf g.L.Leaf.entry (g.S.Seek.seeking c.args.seek.now) _ _ c.args.leaf.now c.saturating_add-2.ensures in
+    let r = c.in-Some.ensures.full (ap Some c.in-Full.is) in
+    on_any c.from_residual.result _ (leaf_kept _ _ _ _ _ _ here _ (c.in_err-split_sought-in-Full.ensures.unchanged ∙ r.0) r.2)
+
+pub returns-in-OutOfMemory-clause-failed : goal.returns-in-OutOfMemory-clause-failed
+returns-in-OutOfMemory-clause-failed g c =
+    let here = at_leaf g.L.Leaf.entry (g.S.Seek.seeking c.args.seek.now) _ _ c.args.leaf.now c.saturating_add-2.ensures in
+    let r = c.in-Some.ensures.memory (ap Some c.in-OutOfMemory.is) in leaf_kept _ _ _ _ _ _ here _ r.0 r.1
