@@ -188,7 +188,7 @@ impl Cut<Leaf> for Extend {
             End::Last => extend_first(leaf, self.beside, self.to),
         };
         if extended {
-            return Cutting::Changed;
+            return Cutting::Changed(leaf.entry());
         }
         Cutting::Refused
     }
@@ -221,9 +221,9 @@ impl Cut<Leaf> for DropEnd {
         let left = leaf.len();
         self.dropped = (len - left) as u64;
         if left < MIN_BLOCKS {
-            return Cutting::Small;
+            return Cutting::Small(leaf.entry());
         }
-        Cutting::Changed
+        Cutting::Changed(leaf.entry())
     }
 }
 
@@ -255,8 +255,8 @@ impl Cut<Leaf> for FreeEnd {
         let left = leaf.len();
         self.joined = (len - left) as u64;
         if left < MIN_BLOCKS {
-            return Cutting::Small;
+            return Cutting::Small(leaf.entry());
         }
-        Cutting::Changed
+        Cutting::Changed(leaf.entry())
     }
 }

@@ -4,7 +4,7 @@ ghost use Rattle.vm_space.specs.Exact.{IsExactSearch, IsFullAt, RefusesExact, Ed
 ghost use Rattle.vm_space.specs.Allocation.{AllocatesExact, IsOutOfMemory};
 ghost use Rattle.vm_space.specs.Placing.{IsStartIn, RefusesIn, FindsExactPlace};
 
-use crate::place::{Place, has_room, refusal_of};
+use crate::place::{Place, has_room, refusal_of, take_place};
 use crate::search::{Refusal, Search, Taken};
 use std::alloc::{AllocError, Global};
 use vm_leaf::{Block, Leaf, Rest};
@@ -97,7 +97,8 @@ impl Edit<Leaf> for Exact {
 
     ghost lacks = { λ self bs. IsFullAt self.search self.start bs × (self.spare ≡ None) };
 
-    fn change(&mut self, leaf: &mut Leaf, _was: Entry) -> Change {
+    #[inline(always)]
+    fn change(&mut self, leaf: &mut Leaf, was: Entry) -> Change {
         // Proof: `len` gives the facts of a leaf.
         let _len = leaf.len();
         if self.start < leaf.start() || leaf.end() < self.start {
@@ -117,15 +118,19 @@ impl Edit<Leaf> for Exact {
         if !has_room(leaf, place.rest) {
             return Change::Full;
         }
-        leaf.split(place.index, place.range, place.rest);
+        let kept = take_place(leaf, &place, &was);
         self.answer = Ok(Taken {
             range: place.range,
             added: place.rest.added(),
         });
+        if kept {
+            return Change::Same;
+        }
         Change::Changed
     }
 
     #[tactic(auto, using(crate::proofs::Taking::splitting))]
+    #[inline(never)]
     fn split(&mut self, leaf: &mut Leaf, alloc: Global) -> Result<Box<Leaf>, AllocError> {
         // Proof: `len` gives the facts of a leaf.
         let _len = leaf.len();

@@ -1,16 +1,17 @@
 //! The allocation of the lowest or of the highest place of a search, in one leaf.
-ghost use Rattle.std.specs.Prelude.{◌≡◌, ◌+◌, ◌<◌, ◌≤◌, ◌++◌, None, Ok, Err, length, IfOk, OnErr, MatchOption};
+ghost use Rattle.std.specs.Prelude.{◌≡◌, ◌+◌, ◌<◌, ◌≤◌, ◌++◌, None, Ok, true, Err, length, IfOk, OnErr, MatchOption};
+ghost use Rattle.vm_leaf.specs.Entries.{blocks_entry};
 ghost use Rattle.vm_leaf.specs.Rest.{added_by};
 ghost use Rattle.vm_space.specs.Allocation.{IsSearch, HasNoPlace};
 ghost use Rattle.vm_space.specs.Placing.{IsClosestFitIn, IsClosestLeafPlace};
 ghost use Rattle.vm_space.specs.Fitting.{SettlesFit, FitsLeaf, CanSplit};
 
-use crate::place::{Place, has_room, refusal_of};
+use crate::place::{Place, has_room, refusal_of, take_place};
 use crate::search::{Refusal, Search, Taken};
 use std::alloc::{AllocError, Global};
 use vm_leaf::{Block, CAPACITY, Fit, Leaf, MIN_BLOCKS};
 use vm_ranges::{NodeState, RangeInclusive};
-use vm_tree::End;
+use vm_tree::{End, Entry};
 
 /// Returns the fit of a search that is closest to an end of a leaf, or `None` if there is none.
 #[inline(always)]
@@ -53,29 +54,38 @@ pub(crate) enum Fitting {
     Taken(Taken),
 }
 
-/// Allocates the place of a search that is closest to an end of a leaf, if the leaf has room.
-pub(crate) fn fit_in_leaf(leaf: &mut Leaf, end: End, search: &Search) -> Fitting
+/// Allocates the place of a search that is closest to an end of a leaf, if the leaf has room. Also returns true if the
+/// entry of the leaf was `was` and still is.
+#[inline(always)]
+pub(crate) fn fit_in_leaf(
+    leaf: &mut Leaf,
+    end: End,
+    search: &Search,
+    was: &Entry,
+) -> (Fitting, bool)
     requires search { IsSearch search.now }
-    ensures fits { FitsLeaf end search.now leaf.old leaf.new result }
+    ensures fits { FitsLeaf end search.now leaf.old leaf.new result.0 }
+    ensures kept { result.1 ≡ true → was.now ≡ blocks_entry leaf.old → blocks_entry leaf.new ≡ blocks_entry leaf.old }
     ensures more { length leaf.old ≤ length leaf.new }
     ensures some { (0 < length leaf.new) × (length leaf.new ≤ CAPACITY) }
 {
     // Proof: `len` gives the facts of a leaf.
     let _len = leaf.len();
     let Some(place) = place_in(leaf, end, search) else {
-        return Fitting::Absent;
+        return (Fitting::Absent, true);
     };
     if let Some(refusal) = refusal_of(&place, search) {
-        return Fitting::Refused(refusal);
+        return (Fitting::Refused(refusal), true);
     }
     if !has_room(leaf, place.rest) {
-        return Fitting::Full(place);
+        return (Fitting::Full(place), true);
     }
-    leaf.split(place.index, place.range, place.rest);
-    Fitting::Taken(Taken {
+    let kept = take_place(leaf, &place, was);
+    let taken = Taken {
         range: place.range,
         added: place.rest.added(),
-    })
+    };
+    (Fitting::Taken(taken), kept)
 }
 
 /// Allocates a place in a leaf that has no room for it: its upper part is moved to another leaf.

@@ -40,6 +40,19 @@ fn held_at(leaf: &Leaf, key: &RangeInclusive) -> Option<usize>
     }
 }
 
+/// Returns the entry of a leaf after a gap was made of blocks that do not have its first address alone, or of all.
+#[inline(always)]
+fn with_gap(was: &Entry, gap: &RangeInclusive) -> Entry
+    ensures { result ≡ raised_entry was.now gap.now }
+{
+    let sum = Summary::of_gap(gap);
+    Entry {
+        at: was.at,
+        longest: was.longest.max(sum.longest),
+        alignments: was.alignments.max(sum.alignments.into()),
+    }
+}
+
 /// What became of a range that is to be freed inside its leaf.
 #[derive(Clone, Copy)]
 pub(crate) enum Freeing {
@@ -65,7 +78,8 @@ impl Cut<Leaf> for FreeInside {
 
     ghost shrinks = { λ self. Unit };
 
-    fn cut(&mut self, leaf: &mut Leaf, _was: Entry) -> Cutting {
+    #[inline(always)]
+    fn cut(&mut self, leaf: &mut Leaf, was: Entry) -> Cutting {
         let len = leaf.len();
         self.answer = Freeing::Absent;
         let start = self.key.start();
@@ -79,13 +93,14 @@ impl Cut<Leaf> for FreeInside {
             self.answer = Freeing::AtEdge(edge);
             return Cutting::Refused;
         }
-        leaf.join(i);
+        let gap = leaf.join(i);
+        let entry = with_gap(&was, &gap);
         let left = leaf.len();
         self.answer = Freeing::Done((len - left) as u64);
         if left < MIN_BLOCKS {
-            return Cutting::Small;
+            return Cutting::Small(entry);
         }
-        Cutting::Changed
+        Cutting::Changed(entry)
     }
 }
 

@@ -1,13 +1,15 @@
 //! A place in a leaf, and its allocation there.
-ghost use Rattle.std.specs.Prelude.{◌≡◌, ◌+◌, ◌<◌, ◌≤◌, length, MatchBool, Ok, IsErr, IfSome};
+ghost use Rattle.std.specs.Prelude.{◌≡◌, ◌+◌, ◌<◌, ◌≤◌, length, MatchBool, Ok, IsErr, IfSome, ◌⊎◌, true};
 ghost use Rattle.vm_leaf.specs.Blocks.{IsTakenFrom};
+ghost use Rattle.vm_leaf.specs.Entries.{blocks_entry};
 ghost use Rattle.vm_leaf.specs.Rest.{IsRest, added_by};
 ghost use Rattle.vm_space.specs.Allocation.{SettlesAt, IsOutOfMemory};
 ghost use Rattle.vm_space.specs.Placing.{in_list, with_place, IsLeafPlace, IsPlaceFor, RefusesPlace};
 
 use crate::search::{Refusal, Search, Taken};
-use vm_leaf::{CAPACITY, Leaf, Rest};
+use vm_leaf::{CAPACITY, Leaf, Rest, Summary};
 use vm_ranges::RangeInclusive;
+use vm_tree::Entry;
 
 /// A range that is to be allocated in a gap of a leaf.
 #[derive(Clone, Copy)]
@@ -60,4 +62,31 @@ pub(crate) fn has_room(leaf: &Leaf, rest: Rest) -> bool
         (CAPACITY < length leaf.now + added_by rest) }
 {
     leaf.len() <= CAPACITY - rest.added() as usize
+}
+
+/// Returns how much of `most` has to be left if a gap with `gone` is taken: all of it, unless the gap has less.
+#[inline(always)]
+fn to_be_left(gone: u64, most: u64) -> u64
+    ensures { gone < most ⊎ result ≡ most }
+{
+    if gone < most { 0 } else { most }
+}
+
+/// Allocates a place in a leaf, which has room for it. Returns true if the entry of the leaf was `was` and still is.
+#[inline(always)]
+#[tactic(auto, using(crate::proofs::Summaries::keeps_entry))]
+pub(crate) fn take_place(leaf: &mut Leaf, place: &Place, was: &Entry) -> bool
+    requires place { IsLeafPlace leaf.old place.now }
+    requires room { length leaf.old + added_by place.now.rest ≤ CAPACITY }
+    ensures taken { leaf.new ≡ with_place leaf.old place.now }
+    ensures kept { result ≡ true → was.now ≡ blocks_entry leaf.old → blocks_entry leaf.new ≡ blocks_entry leaf.old }
+{
+    // Proof: `len` gives the facts of a leaf.
+    let _len = leaf.len();
+    leaf.split(place.index, place.range, place.rest);
+    let gap = Summary::of_gap(&place.gap);
+    leaf.reaches(
+        to_be_left(gap.longest, was.longest),
+        to_be_left(gap.alignments.into(), was.alignments),
+    )
 }

@@ -111,7 +111,7 @@ impl Space {
         ensures { IsBlockTree self.now }
     {
         self.tree.facts();
-        if let Some(leaf) = self.tree.leaf_at(0) {
+        if let Some(leaf) = self.tree.only_leaf() {
             let _len = leaf.len();
         }
     }

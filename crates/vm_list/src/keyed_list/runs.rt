@@ -6,7 +6,7 @@ ghost use Rattle.vm_list.specs.Puts.{IsPopped};
 use super::KeyedList;
 use crate::chunk::{Chunk, MIN_ENTRIES};
 use crate::id_set::Run;
-use vm_tree::{Cut, Cutting, Entry};
+use vm_tree::{Cut, Cutting, Entry, Leaf};
 
 /// Takes the lowest id out of a leaf.
 #[derive(Drop)]
@@ -28,9 +28,9 @@ impl Cut<Chunk<Run>> for Pop {
             return Cutting::Refused;
         }
         if leaf.len() < before && leaf.len() < MIN_ENTRIES {
-            return Cutting::Small;
+            return Cutting::Small(leaf.entry());
         }
-        Cutting::Changed
+        Cutting::Changed(leaf.entry())
     }
 }
 
