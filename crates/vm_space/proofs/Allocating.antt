@@ -64,7 +64,7 @@ rest_of k r t =
 
 -- ---- The parts of a gap cover what the gap covered
 -- The parts of a gap cover what the gap covered.
-tiles_parts : (rest : Rest) (k r : Range) (q : NodeState) (m hi : ℕ) (us : List Block) → IsRest rest k r → IsTakenFrom k r →
+pub tiles_parts : (rest : Rest) (k r : Range) (q : NodeState) (m hi : ℕ) (us : List Block) → IsRest rest k r → IsTakenFrom k r →
     Tiles q m (free_block k ∷ us) hi → Tiles q m (parts k r ++ us) hi
 tiles_parts Nothing k r q m hi us h t c =
     rw (parts_all k r h.0 h.1) (c.0, c.1, after_held q, tiles_weaken Free (k.end + 1) hi us c.3)

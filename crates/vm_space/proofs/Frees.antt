@@ -1,5 +1,5 @@
 -- Blocks that are freed.
-use Rattle.std.proofs.Common.{◌≡◌, ℕ, ◌+◌, ◌-◌, ◌<◌, ◌≤◌, List, [], ◌∷◌, ◌++◌, length, take, drop, refl, ap, ◌∙◌, sym, subst, arith, append_assoc, length-take-le, length-drop}
+use Rattle.std.proofs.Common.{◌≡◌, ℕ, zero, suc, ◌+◌, ◌-◌, ◌<◌, ◌≤◌, List, [], ◌∷◌, ◌++◌, length, take, drop, refl, ap, ◌∙◌, sym, subst, arith, append_assoc, length-take-le, length-drop}
 use Rattle.vm_ranges.specs.Range.{Range}
 use Rattle.vm_ranges.specs.declared.state.NodeState.{NodeState}
 use Rattle.vm_ranges.specs.declared.state.NodeState.TheVariants.{Free, Allocated}
@@ -59,6 +59,39 @@ pub length-freed : (m : List Block) (k : Range) (us : List Block)
 length-freed [] k us = let h = length-with_free k us in (omega (arith, h.0), omega arith, h.0)
 length-freed (x ∷ []) k us = let h = length-freed_on x.state x k us in (omega (arith, h.0), omega (arith, h.1), h.0)
 length-freed (x ∷ y ∷ m) k us = let h = length-freed (y ∷ m) k us in (omega (arith, h.0), omega (arith, h.1), omega (arith, h.2))
+
+-- A freed block that is joined with the next one starts at the same address.
+start_join : (s : NodeState) (k : Range) (b : Block) (us : List Block) → start_of (join_if s k b us) ≡ k.start
+start_join Free k b us = refl
+start_join Allocated k b us = refl
+
+start_freed_on : (s : NodeState) (x : Block) (k : Range) (us : List Block) → x.state ≡ s → start_of (freed_on s x k us) ≡ x.key.start
+start_freed_on Allocated x k us e = refl
+start_freed_on Free x k [] e = refl
+start_freed_on Free x k (b ∷ us) e = start_join b.state (record { start = x.key.start; end = k.end }) b us
+
+pub start_free : (k : Range) (us : List Block) → start_of (with_free k us) ≡ k.start
+start_free k [] = refl
+start_free k (b ∷ us) = start_join b.state k b us
+
+-- A list with a freed block starts at the same address.
+pub start_freed : (m : List Block) (k : Range) (us : List Block) → 0 < length m → start_of (freed_between m k us) ≡ start_of m
+start_freed [] k us h = absurd (omega arith)
+start_freed (x ∷ []) k us h = start_freed_on x.state x k us refl
+start_freed (x ∷ y ∷ m) k us h = refl
+
+-- A leaf starts at the same address after a block was freed that is not its first, or its only one.
+pub freed_start : (bs : List Block) (i : ℕ) → i < length bs → ((0 < i) × (i + 1 < length bs)) ⊎ (length bs ≡ 1) → start_of (freed_at i bs) ≡ start_of bs
+freed_start bs i l (inl h) = start_freed (take i bs) (nth bs i).key (drop (i + 1) bs) (omega (arith, length-take-le i bs, l, h.0)) ∙ start_taken i bs h.0
+  where
+    start_taken : (i : ℕ) (bs : List Block) → 0 < i → start_of (take i bs) ≡ start_of bs
+    start_taken zero bs h = absurd (omega arith)
+    start_taken (suc i) [] h = refl
+    start_taken (suc i) (b ∷ bs) h = refl
+freed_start [] i l (inr h) = absurd (omega (arith, h))
+freed_start (b ∷ []) zero l (inr h) = start_free b.key []
+freed_start (b ∷ []) (suc i) l (inr h) = absurd (omega (arith, l))
+freed_start (b ∷ c ∷ bs) i l (inr h) = absurd (omega (arith, h))
 
 -- The cover after a block is freed.
 tiles_join : (s : NodeState) (hi a z : ℕ) (b : Block) (us : List Block) → b.state ≡ s → a ≤ z → Tiles Allocated (z + 1) (b ∷ us) hi

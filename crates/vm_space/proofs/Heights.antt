@@ -1,5 +1,6 @@
 -- The height of a tree by its blocks.
-use Rattle.std.proofs.Common.{◌≡◌, ℕ, zero, suc, ◌+◌, ◌*◌, ◌-◌, ◌^◌, ◌<◌, ◌≤◌, List, [], ◌∷◌, ◌++◌, length, refl, sym, ◌∙◌, arith, inl, inr, ap, ⊎_elim, length-append}
+use Rattle.std.proofs.Common.{◌≡◌, ℕ, zero, suc, ◌+◌, ◌*◌, ◌-◌, ◌^◌, ◌<◌, ◌≤◌, List, [], ◌∷◌, ◌++◌, length, refl, sym, subst, ◌∙◌, arith, inl, inr, ap, ⊎_elim, length-append}
+use Rattle.std.specs.Prelude.{◌⊎◌}
 use Rattle.std.proofs.Math.Nat.{pow-suc, pow-le-pow_right}
 use Rattle.std.proofs.lemmas.Bool.{cases_lt}
 use Rattle.vm_ranges.specs.Range.{MAX}
@@ -7,9 +8,8 @@ use Rattle.vm_ranges.specs.declared.state.NodeState.{NodeState}
 use Rattle.vm_ranges.specs.declared.state.NodeState.TheVariants.{Free, Allocated}
 use Rattle.vm_leaf.specs.declared.block.Block.{Block}
 use Rattle.vm_leaf.specs.Blocks.{Tiles, NotBothFree, IsRun}
-use Rattle.vm_leaf.specs.Entries.{HasEnough, blocks_entry}
+use Rattle.vm_leaf.specs.Entries.{HasEnough}
 use Rattle.vm_leaf.specs.declared.leaf.TheConstants.{CAPACITY}
-use Rattle.vm_tree.specs.Found.{IsLeafOf}
 use Rattle.vm_tree.specs.Sized.{IsSizedTree}
 use Rattle.vm_tree.specs.Subtree.{AllOf}
 use Rattle.vm_space.specs.Fibonacci.{fibonacci, fibonacci_pair}
@@ -112,24 +112,25 @@ enough_fit : (ls : List (List Block)) → AllOf HasEnough ls → AllOf (λ bs. (
 enough_fit [] h = tt
 enough_fit (x ∷ ls) h = ((omega (arith, h.0), h.0.1), enough_fit ls h.1)
 
-one_leaf : (x y : List Block) (before after : List (List Block)) → y ∷ [] ≡ before ++ x ∷ after → x ≡ y
-one_leaf x y [] after e = cc
-one_leaf x y (b ∷ before) after e = absurd (let l = ap length e in omega (arith, l, length-append before (x ∷ after)))
+-- A tree has one leaf, which fits, or its root is a node.
+abbrev pub IsLoneOr : Shape → Type 0
+IsLoneOr s = ((x : List Block) × ((s.leaves ≡ x ∷ []) × (length x ≤ CAPACITY))) ⊎ (0 < length s.leaves → 2 ≤ s.height)
 
-leaf_sizes : (ls : List (List Block)) → (2 ≤ length ls → AllOf HasEnough ls) → HaveBlocks ls → (x : List Block) → IsLeafOf blocks_entry 0 ls x
-    → length x ≤ CAPACITY → AllOf (λ bs. (0 < length bs) × (length bs ≤ CAPACITY)) ls
-leaf_sizes [] enough some x leaf fits = tt
-leaf_sizes (y ∷ []) enough some x leaf fits =
-    let e = one_leaf leaf.leaf y leaf.before leaf.after leaf.home.was in
-    ((some.0, omega (arith, fits, ap length (sym e ∙ leaf.refused))), tt)
-leaf_sizes (y ∷ z ∷ ls) enough some x leaf fits = enough_fit (y ∷ z ∷ ls) (enough (omega arith))
+leaf_sizes : (s : Shape) → (2 ≤ length s.leaves → AllOf HasEnough s.leaves) → (0 < length s.leaves → IsSizedTree s) → HaveBlocks s.leaves → 0 < length s.leaves
+    → IsLoneOr s → AllOf (λ bs. (0 < length bs) × (length bs ≤ CAPACITY)) s.leaves
+leaf_sizes s enough sized have some (inl one) =
+    subst (AllOf (λ bs. (0 < length bs) × (length bs ≤ CAPACITY))) (sym one.1.0) (((subst HaveBlocks one.1.0 have).0, one.1.1), tt)
+leaf_sizes s enough sized have some (inr high) =
+    let f = (sized some).fewest (high some) in
+    let m : 5 ^ 0 ≤ 5 ^ (s.height - 2) = pow-le-pow_right {n = 5} (omega arith) {i = 0} {j = s.height - 2} (omega arith) in
+    enough_fit s.leaves (enough (omega (arith, f, m)))
 
 -- The height of a tree is limited by its nodes and by its held blocks.
 pub block_tree : (s : Shape) → AreSpace s.leaves → (2 ≤ length s.leaves → AllOf HasEnough s.leaves) → (0 < length s.leaves → IsSizedTree s)
-    → (x : List Block) → IsLeafOf blocks_entry 0 s.leaves x → length x ≤ CAPACITY → IsBlockTree s
-block_tree s space enough sized x leaf fits = record {
+    → IsLoneOr s → IsBlockTree s
+block_tree s space enough sized lone = record {
   space = space;
-  tree = record { leaves = leaf_sizes s.leaves enough space.some x leaf fits; full = enough };
+  tree = record { leaves = leaf_sizes s enough sized space.some some lone; full = enough };
   high = z.high;
   height = elim (cases_lt s.height 49) [
     | inl l ↦ l

@@ -5,6 +5,7 @@ pub mod Taking
 pub mod Spaces
 pub mod Exacts
 pub mod Frees
+pub mod Summaries
 pub mod FreesAbsent
 pub mod Steps
 pub mod Freed

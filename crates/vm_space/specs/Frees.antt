@@ -1,16 +1,22 @@
 -- An allocated block that is freed, and joined with its free neighbours.
-use Rattle.std.specs.Prelude.{◌≡◌, ◌⊎◌, ℕ, ◌+◌, ◌<◌, List, ◌∷◌, ◌++◌, length, Option, Some, None}
-use Rattle.vm_ranges.specs.Range.{Range}
+use Rattle.std.specs.Prelude.{◌≡◌, ◌⊎◌, ℕ, max, ◌+◌, ◌<◌, List, ◌∷◌, ◌++◌, length, Option, Some, None}
+use Rattle.vm_ranges.specs.Range.{Range, address_count}
 use Rattle.vm_leaf.specs.declared.block.Block.{Block}
 use Rattle.vm_leaf.specs.Block.{held_block}
 use Rattle.vm_leaf.specs.Blocks.{nth, freed_between}
 use Rattle.vm_leaf.specs.Entries.{blocks_entry}
+use Rattle.vm_leaf.specs.Multiples.{alignment_count}
 use Rattle.vm_tree.specs.Edits.{IsRefused}
+use Rattle.vm_tree.specs.declared.entries.Entry.{Entry}
 use Rattle.vm_tree.specs.Subtree.{Subtree}
 use Rattle.vm_space.specs.Leaves.{blocks_of, HaveBlocks, IsInLeaf}
 use Rattle.vm_space.specs.declared.free.Freeing.{Freeing}
 use Rattle.vm_space.specs.declared.free.Freeing.TheVariants.{Absent, AtEdge, Done}
 use Rattle.vm_space.specs.Edges.{IsEdgeOf, IsEdge}
+
+-- The entry of a leaf with the gap k as well, of which its other gaps beside k are parts.
+abbrev pub raised_entry : Entry → Range → Entry
+raised_entry e k = record { at = e.at; longest = max e.longest (address_count k); alignments = max e.alignments (alignment_count k) }
 
 -- The range k was held, and became a gap, joined with its free neighbours.
 pub record FreesBlock (k : Range) (old new : List Block) : Type 0 where

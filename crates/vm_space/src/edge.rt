@@ -8,7 +8,7 @@ ghost use Rattle.vm_leaf.specs.declared.leaf.TheConstants.{MIN_BLOCKS};
 
 use vm_leaf::{Block, Leaf, MIN_BLOCKS};
 use vm_ranges::NodeState;
-use vm_tree::{Cut, Cutting, End, Entry};
+use vm_tree::{Cut, Cutting, End, Entry, Leaf as TreeLeaf};
 
 /// A held block at an end of its leaf.
 #[derive(Clone, Copy)]

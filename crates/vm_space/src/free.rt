@@ -11,11 +11,11 @@ ghost use Rattle.vm_leaf.specs.Blocks.{nth, start_of, end_of};
 ghost use Rattle.vm_leaf.specs.Entries.{HasEnough};
 ghost use Rattle.vm_tree.specs.Subtree.{AllOf};
 ghost use Rattle.vm_space.specs.Spaces.{AreSpace};
-ghost use Rattle.vm_space.specs.Frees.{FreesLeaves, RefusesFree, RefusesInside, DoneInside, CutAfter, IsFreed};
+ghost use Rattle.vm_space.specs.Frees.{raised_entry, FreesLeaves, RefusesFree, RefusesInside, DoneInside, CutAfter, IsFreed};
 ghost use Rattle.vm_space.specs.Edges.{BecomesOne, IsEdge, IsApart, ExtendedAt};
 
 use crate::edge::{DropEnd, Edge, Extend, FreeEnd, edge_of};
-use vm_leaf::{Leaf, MIN_BLOCKS};
+use vm_leaf::{Leaf, MIN_BLOCKS, Summary};
 use vm_ranges::{NodeState, RangeInclusive};
 use vm_tree::{Cut, Cutting, End, Entry, Tree};
 

@@ -74,7 +74,6 @@ fn to_be_left(gone: u64, most: u64) -> u64
 
 /// Allocates a place in a leaf, which has room for it. Returns true if the entry of the leaf was `was` and still is.
 #[inline(always)]
-#[tactic(auto, using(crate::proofs::Summaries::keeps_entry))]
 pub(crate) fn take_place(leaf: &mut Leaf, place: &Place, was: &Entry) -> bool
     requires place { IsLeafPlace leaf.old place.now }
     requires room { length leaf.old + added_by place.now.rest ≤ CAPACITY }
