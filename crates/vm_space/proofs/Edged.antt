@@ -4,11 +4,11 @@ use Rattle.std.proofs.lemmas.List.{get_or-take}
 use Rattle.vm_ranges.specs.declared.state.NodeState.{NodeState}
 use Rattle.vm_ranges.specs.declared.state.NodeState.TheVariants.{Free, Allocated}
 use Rattle.vm_leaf.specs.declared.block.Block.{Block}
-use Rattle.vm_leaf.specs.Blocks.{nth, blank, start_of, end_of, from_start, upto_end, IsLeaf}
+use Rattle.vm_leaf.specs.Blocks.{nth, blank, start_of, end_of, IsLeaf}
 use Rattle.vm_leaf.proofs.Tiles.{leaf_part}
 use Rattle.vm_leaf.specs.Block.{held_block}
-use Rattle.vm_space.specs.Edges.{ExtendsLast, ExtendsFirst, DropsFirst, DropsLast, IsFirstHeld, IsLastHeld, end_if, start_if, rest_if, low_if}
-use Rattle.vm_space.proofs.Lists.{cut_at, cut_last}
+use Rattle.vm_space.specs.Edges.{DropsFirst, DropsLast, IsFirstHeld, IsLastHeld, end_if, start_if, rest_if, low_if}
+use Rattle.vm_space.proofs.Lists.{cut_last}
 
 -- The blocks at both ends of a leaf are in order.
 pub last_order : (bs : List Block) → IsLeaf bs → (start_of bs ≤ (nth bs (length bs - 1)).key.start) × ((nth bs (length bs - 1)).key.start ≤ end_of bs)

@@ -1,20 +1,16 @@
 -- A place of a search that is allocated in a leaf.
-use Rattle.std.specs.Prelude.{Some, None, Result, Ok, Err, OnErr}
+use Rattle.std.specs.Prelude.{Result, Ok, Err, OnErr}
 use Rattle.std.proofs.Common.{◌≡◌, ◌<◌, List, ◌∷◌, ◌++◌, ap, sym, subst, inl, inr}
 use Rattle.vm_leaf.specs.declared.block.Block.{Block}
-use Rattle.vm_leaf.specs.Rest.{added_by}
 use Rattle.vm_space.specs.Allocation.{AllocatesFit}
-use Rattle.vm_space.specs.Placing.{in_list, with_place, IsClosestLeafPlace, RefusesPlace}
 use Rattle.vm_tree.specs.declared.end.End.{End}
-use Rattle.vm_space.specs.declared.place.Place.{Place}
 use Rattle.vm_space.specs.declared.search.Search.{Search}
 use Rattle.vm_space.specs.declared.search.Taken.{Taken}
 use Rattle.vm_space.specs.declared.search.Refusal.{Refusal}
 use Rattle.vm_tree.specs.Subtree.{Subtree}
 use Rattle.vm_space.specs.Leaves.{blocks_of, HaveBlocks}
 use Rattle.vm_space.specs.Spaces.{AreSpace}
-use Rattle.vm_space.specs.Fitting.{SettlesFit, FitsAt, FitsTree}
-use Rattle.vm_space.proofs.Taking.{settled, refused}
+use Rattle.vm_space.specs.Fitting.{FitsAt, FitsTree}
 use Rattle.vm_space.proofs.Allocating.{run_allocated}
 use Rattle.vm_space.proofs.Exacts.{below_taken}
 use Rattle.vm_space.proofs.Searched.{closest_allocated, fit_middle}

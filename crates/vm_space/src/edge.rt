@@ -8,7 +8,7 @@ ghost use Rattle.vm_leaf.specs.declared.leaf.TheConstants.{MIN_BLOCKS};
 
 use vm_leaf::{Block, Leaf, MIN_BLOCKS};
 use vm_ranges::NodeState;
-use vm_tree::{Cut, Cutting, End, Entry, Leaf as TreeLeaf};
+use vm_tree::{Cut, Cutting, End, Entry};
 
 /// A held block at an end of its leaf.
 #[derive(Clone, Copy)]
@@ -188,7 +188,7 @@ impl Cut<Leaf> for Extend {
             End::Last => extend_first(leaf, self.beside, self.to),
         };
         if extended {
-            return Cutting::Changed(leaf.entry());
+            return Cutting::Changed(vm_tree::Leaf::entry(leaf));
         }
         Cutting::Refused
     }
@@ -221,9 +221,9 @@ impl Cut<Leaf> for DropEnd {
         let left = leaf.len();
         self.dropped = (len - left) as u64;
         if left < MIN_BLOCKS {
-            return Cutting::Small(leaf.entry());
+            return Cutting::Small(vm_tree::Leaf::entry(leaf));
         }
-        Cutting::Changed(leaf.entry())
+        Cutting::Changed(vm_tree::Leaf::entry(leaf))
     }
 }
 
@@ -255,8 +255,8 @@ impl Cut<Leaf> for FreeEnd {
         let left = leaf.len();
         self.joined = (len - left) as u64;
         if left < MIN_BLOCKS {
-            return Cutting::Small(leaf.entry());
+            return Cutting::Small(vm_tree::Leaf::entry(leaf));
         }
-        Cutting::Changed(leaf.entry())
+        Cutting::Changed(vm_tree::Leaf::entry(leaf))
     }
 }

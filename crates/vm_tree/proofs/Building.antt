@@ -7,13 +7,12 @@ use Rattle.std.specs.List.{insert}
 use Rattle.vm_tree.specs.Entry.{Entry}
 use Rattle.vm_tree.specs.Rows.{sum_of}
 use Rattle.vm_tree.specs.Slots.{held, IsDense}
-use Rattle.vm_tree.specs.Over.{IsOver}
 use Rattle.vm_tree.specs.Subtree.{Subtree, leaf_of, leaves_of, entry_of, front, over, kids, IsFull, AreFull, AllOf}
 use Rattle.vm_tree.specs.Building.{IsRow, IsShare, IsBuilt, IsBuiltTree}
 use Rattle.vm_tree.specs.declared.node.Kids.{Kids}
 use Rattle.vm_tree.specs.declared.node.Kids.TheVariants.{Leaves, Nodes}
 use Rattle.vm_tree.specs.Nodes.{kids_of, AreUnder}
-use Rattle.vm_tree.proofs.Flats.{flat-append, front_is, full_front, full_over, sum-entries, all_right}
+use Rattle.vm_tree.proofs.Flats.{flat-append, front_is, full_over, sum-entries, all_right}
 
 -- ---- What is stored beside a node
 module _ {X : Type 0} (entry : X → Entry) (enough : X → Type 0) where

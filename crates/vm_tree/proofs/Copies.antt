@@ -1,12 +1,10 @@
 -- Copies of children, one after the other.
-use Rattle.std.proofs.Common.{◌≡◌, ℕ, zero, suc, ◌+◌, ◌<◌, ◌≤◌, List, [], ◌∷◌, map, length, take, get_or, Option, Some, Box, ◌∙◌, sym, refl, ap, subst, arith, add-one}
+use Rattle.std.proofs.Common.{◌≡◌, ℕ, zero, suc, ◌+◌, ◌<◌, List, [], ◌∷◌, map, length, take, get_or, Option, Some, Box, ◌∙◌, sym, refl, ap, arith, add-one}
 use Rattle.std.specs.declared.alloc.Global.{Global}
 use Rattle.std.specs.List.{insert}
 use Rattle.std.proofs.lemmas.List.Edits.{length-insert}
 use Rattle.vm_tree.specs.Slots.{held, IsDense}
-use Rattle.vm_tree.specs.Entry.{Entry}
-use Rattle.vm_tree.specs.Over.{IsOver}
-use Rattle.vm_tree.specs.Subtree.{Subtree, entry_of, front, AreFull}
+use Rattle.vm_tree.specs.Subtree.{Subtree, AreFull}
 use Rattle.vm_tree.specs.Copies.{AreCopies}
 use Rattle.vm_tree.proofs.Dense.{kid_at}
 

@@ -1,11 +1,9 @@
 -- A root that lost a child.
-use Rattle.std.proofs.Common.{◌≡◌, ℕ, ◌≤◌, ◌<◌, List, [], ◌∷◌, Bool, true, false, length, map, get_or, Option, Box, ◌∙◌, sym, ap, subst, arith}
+use Rattle.std.proofs.Common.{◌≡◌, ℕ, ◌≤◌, ◌<◌, List, [], ◌∷◌, Bool, true, false, length, map, get_or, Box, ◌∙◌, sym, ap, subst, arith}
 use Rattle.std.proofs.lemmas.List.{append-nil}
 use Rattle.std.specs.declared.alloc.Global.{Global}
 use Rattle.vm_tree.specs.Entry.{Entry}
-use Rattle.vm_tree.specs.Slots.{held}
-use Rattle.vm_tree.specs.Subtree.{Subtree, kids, over, front, IsFull, AreFull}
-use Rattle.vm_tree.specs.Over.{IsOver}
+use Rattle.vm_tree.specs.Subtree.{Subtree, kids, over, IsFull, AreFull}
 use Rattle.vm_tree.specs.Nodes.{kids_of, node_tree}
 use Rattle.vm_tree.specs.Lowers.{IsRootCut, IsLowered, HasShrunk, IsTreeCut}
 use Rattle.vm_tree.specs.Edits.{IsEdited}

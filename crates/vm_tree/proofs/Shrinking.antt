@@ -7,7 +7,7 @@ use Rattle.vm_tree.specs.declared.node.Node.{Node}
 use Rattle.vm_tree.specs.Entry.{Entry}
 use Rattle.vm_tree.specs.Rows.{sum_of, nth}
 use Rattle.vm_tree.specs.Slots.{held, IsDense}
-use Rattle.vm_tree.specs.Subtree.{Subtree, leaves_of, front, over, nth_tree, no_tree, kids, entry_of, AllOf, IsFull, AreFull}
+use Rattle.vm_tree.specs.Subtree.{Subtree, leaves_of, front, over, nth_tree, no_tree, kids, entry_of, IsFull, AreFull}
 use Rattle.vm_tree.specs.Edits.{AtKey}
 use Rattle.vm_tree.specs.Over.{IsOver}
 use Rattle.vm_tree.specs.Mends.{NoJoin, IsRegrouped, IsMended, AtPair, with_pair}

@@ -1,5 +1,5 @@
-use Rattle.std.proofs.Common.{refl, ap, ◌∙◌, arith}
-use Rattle.vm_tree.proofs.Leaves.{at_key, leaf_kept, leaf_same, leaf_changed, leaf_split}
+use Rattle.std.proofs.Common.{refl, ◌∙◌}
+use Rattle.vm_tree.proofs.Leaves.{at_key, leaf_kept, leaf_same, leaf_changed}
 use Rattle.vm_tree.proofs.Results.{on_any}
 use Rattle.vm_tree.proofs.edit.edit_leaf.Goals as goal
 

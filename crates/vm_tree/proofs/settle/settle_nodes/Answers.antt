@@ -1,6 +1,6 @@
 use Rattle.std.proofs.Common.{subst, sym, refl, arith, length}
 use Rattle.vm_tree.specs.Grew.{CanSettle, IsSettledIn}
-use Rattle.vm_tree.specs.Nodes.{leaf_tree, node_tree}
+use Rattle.vm_tree.specs.Nodes.{node_tree}
 use Rattle.vm_tree.specs.Slots.{held}
 use Rattle.vm_tree.specs.declared.outcome.Outcome.TheVariants as outcome
 use Rattle.vm_tree.specs.declared.outcome.Settled.TheVariants as settled

@@ -90,9 +90,9 @@ impl<E: Keyed> Cut<Chunk<E>> for TakeOut<E> {
             Some(entry) => {
                 self.taken = Some(entry);
                 if leaf.len() < MIN_ENTRIES {
-                    Cutting::Small
+                    Cutting::Small(leaf.entry())
                 } else {
-                    Cutting::Changed
+                    Cutting::Changed(leaf.entry())
                 }
             }
             None => {
@@ -115,7 +115,7 @@ impl<E: Keyed> Cut<Chunk<E>> for Lower<E> {
             return Cutting::Refused;
         };
         match leaf.lower(self.key, entry) {
-            Ok(_) => Cutting::Changed,
+            Ok(_) => Cutting::Changed(leaf.entry()),
             Err(_) => Cutting::Refused,
         }
     }

@@ -50,18 +50,21 @@ impl Seek<Leaf> for Closest {
             && u64::from(self.search.alignment.trailing_zeros()) < entry.alignments
     }
 
-    fn seek(&mut self, leaf: &mut Leaf, _was: Entry) -> Option<Change> {
-        let fitting = fit_in_leaf(leaf, self.end, &self.search);
+    #[inline(always)]
+    fn seek(&mut self, leaf: &mut Leaf, was: Entry) -> Option<Change> {
+        let (fitting, kept) = fit_in_leaf(leaf, self.end, &self.search, &was);
         let change = match fitting {
             Fitting::Absent => return None,
             Fitting::Refused(_) => Change::Refused,
             Fitting::Full(_) => Change::Full,
+            Fitting::Taken(_) if kept => Change::Same,
             Fitting::Taken(_) => Change::Changed,
         };
         self.fitting = fitting;
         Some(change)
     }
 
+    #[inline(never)]
     fn split(&mut self, leaf: &mut Leaf, alloc: Global) -> Result<Box<Leaf>, AllocError> {
         let Fitting::Full(place) = self.fitting else {
             unreachable!()

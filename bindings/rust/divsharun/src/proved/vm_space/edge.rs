@@ -142,7 +142,7 @@ impl Cut<Leaf> for Extend {
             End::Last => extend_first(leaf, self.beside, self.to),
         };
         if extended {
-            return Cutting::Changed;
+            return Cutting::Changed(crate::proved::vm_tree::Leaf::entry(leaf));
         }
         Cutting::Refused
     }
@@ -168,9 +168,9 @@ impl Cut<Leaf> for DropEnd {
         let left = leaf.len();
         self.dropped = (len - left) as u64;
         if left < MIN_BLOCKS {
-            return Cutting::Small;
+            return Cutting::Small(crate::proved::vm_tree::Leaf::entry(leaf));
         }
-        Cutting::Changed
+        Cutting::Changed(crate::proved::vm_tree::Leaf::entry(leaf))
     }
 }
 
@@ -195,8 +195,8 @@ impl Cut<Leaf> for FreeEnd {
         let left = leaf.len();
         self.joined = (len - left) as u64;
         if left < MIN_BLOCKS {
-            return Cutting::Small;
+            return Cutting::Small(crate::proved::vm_tree::Leaf::entry(leaf));
         }
-        Cutting::Changed
+        Cutting::Changed(crate::proved::vm_tree::Leaf::entry(leaf))
     }
 }

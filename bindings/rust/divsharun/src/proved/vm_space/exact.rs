@@ -4,7 +4,7 @@
 
 use crate::proved::vm_leaf::{Block, Leaf, Rest};
 use crate::proved::vm_ranges::{NodeState, RangeInclusive};
-use crate::proved::vm_space::place::{has_room, refusal_of, Place};
+use crate::proved::vm_space::place::{has_room, refusal_of, take_place, Place};
 use crate::proved::vm_space::search::{Refusal, Search, Taken};
 use crate::proved::vm_tree::{Change, Edit, Entry};
 use crate::rattle::Box;
@@ -67,7 +67,8 @@ pub(in crate::proved::vm_space) struct Exact {
 }
 
 impl Edit<Leaf> for Exact {
-    fn change(&mut self, leaf: &mut Leaf, _was: Entry) -> Change {
+    #[inline(always)]
+    fn change(&mut self, leaf: &mut Leaf, was: Entry) -> Change {
         if self.start < leaf.start() || leaf.end() < self.start {
             return Change::Refused;
         }
@@ -85,14 +86,18 @@ impl Edit<Leaf> for Exact {
         if !has_room(leaf, place.rest) {
             return Change::Full;
         }
-        leaf.split(place.index, place.range, place.rest);
+        let kept = take_place(leaf, &place, &was);
         self.answer = Ok(Taken {
             range: place.range,
             added: place.rest.added(),
         });
+        if kept {
+            return Change::Same;
+        }
         Change::Changed
     }
 
+    #[inline(never)]
     fn split(&mut self, leaf: &mut Leaf, alloc: Global) -> Result<Box<Leaf>, AllocError> {
         let index = leaf.index_of(self.start);
         let gap = leaf.key_at(index);

@@ -4,9 +4,9 @@
 
 use crate::proved::vm_leaf::{Block, Fit, Leaf};
 use crate::proved::vm_ranges::{NodeState, RangeInclusive};
-use crate::proved::vm_space::place::{has_room, refusal_of, Place};
+use crate::proved::vm_space::place::{has_room, refusal_of, take_place, Place};
 use crate::proved::vm_space::search::{Refusal, Search, Taken};
-use crate::proved::vm_tree::End;
+use crate::proved::vm_tree::{End, Entry};
 use crate::rattle::Box;
 use crate::rattle::{AllocError, Global};
 
@@ -41,26 +41,30 @@ pub(in crate::proved::vm_space) enum Fitting {
     Taken(Taken),
 }
 
-/// Allocates the place of a search that is closest to an end of a leaf, if the leaf has room.
+/// Allocates the place of a search that is closest to an end of a leaf, if the leaf has room. Also returns true if the
+/// entry of the leaf was `was` and still is.
+#[inline(always)]
 pub(in crate::proved::vm_space) fn fit_in_leaf(
     leaf: &mut Leaf,
     end: End,
     search: &Search,
-) -> Fitting {
+    was: &Entry,
+) -> (Fitting, bool) {
     let Some(place) = place_in(leaf, end, search) else {
-        return Fitting::Absent;
+        return (Fitting::Absent, true);
     };
     if let Some(refusal) = refusal_of(&place, search) {
-        return Fitting::Refused(refusal);
+        return (Fitting::Refused(refusal), true);
     }
     if !has_room(leaf, place.rest) {
-        return Fitting::Full(place);
+        return (Fitting::Full(place), true);
     }
-    leaf.split(place.index, place.range, place.rest);
-    Fitting::Taken(Taken {
+    let kept = take_place(leaf, &place, was);
+    let taken = Taken {
         range: place.range,
         added: place.rest.added(),
-    })
+    };
+    (Fitting::Taken(taken), kept)
 }
 
 /// Allocates a place in a leaf that has no room for it: its upper part is moved to another leaf.

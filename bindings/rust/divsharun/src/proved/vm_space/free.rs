@@ -6,7 +6,7 @@
 //! in the next leaf is extended over it, and then the block is dropped from its leaf. If no gap is there, it is
 //! freed in its leaf instead. Only the last change can make a leaf so small that it is joined with another.
 
-use crate::proved::vm_leaf::{Leaf, MIN_BLOCKS};
+use crate::proved::vm_leaf::{Leaf, Summary, MIN_BLOCKS};
 use crate::proved::vm_ranges::{NodeState, RangeInclusive};
 use crate::proved::vm_space::edge::{edge_of, DropEnd, Edge, Extend, FreeEnd};
 use crate::proved::vm_tree::{Cut, Cutting, End, Entry, Tree};
@@ -23,6 +23,17 @@ fn held_at(leaf: &Leaf, key: &RangeInclusive) -> Option<usize> {
     match block.state {
         NodeState::Free => None,
         NodeState::Allocated => Some(i),
+    }
+}
+
+/// Returns the entry of a leaf after a gap was made of blocks that do not have its first address alone, or of all.
+#[inline(always)]
+fn with_gap(was: &Entry, gap: &RangeInclusive) -> Entry {
+    let sum = Summary::of_gap(gap);
+    Entry {
+        at: was.at,
+        longest: was.longest.max(sum.longest),
+        alignments: was.alignments.max(sum.alignments.into()),
     }
 }
 
@@ -44,7 +55,8 @@ pub(in crate::proved::vm_space) struct FreeInside {
 }
 
 impl Cut<Leaf> for FreeInside {
-    fn cut(&mut self, leaf: &mut Leaf, _was: Entry) -> Cutting {
+    #[inline(always)]
+    fn cut(&mut self, leaf: &mut Leaf, was: Entry) -> Cutting {
         let len = leaf.len();
         self.answer = Freeing::Absent;
         let start = self.key.start();
@@ -58,13 +70,14 @@ impl Cut<Leaf> for FreeInside {
             self.answer = Freeing::AtEdge(edge);
             return Cutting::Refused;
         }
-        leaf.join(i);
+        let gap = leaf.join(i);
+        let entry = with_gap(&was, &gap);
         let left = leaf.len();
         self.answer = Freeing::Done((len - left) as u64);
         if left < MIN_BLOCKS {
-            return Cutting::Small;
+            return Cutting::Small(entry);
         }
-        Cutting::Changed
+        Cutting::Changed(entry)
     }
 }
 

@@ -2,9 +2,10 @@
 
 //! A place in a leaf, and its allocation there.
 
-use crate::proved::vm_leaf::{Leaf, Rest, CAPACITY};
+use crate::proved::vm_leaf::{Leaf, Rest, Summary, CAPACITY};
 use crate::proved::vm_ranges::RangeInclusive;
 use crate::proved::vm_space::search::{Refusal, Search};
+use crate::proved::vm_tree::Entry;
 
 /// A range that is to be allocated in a gap of a leaf.
 #[derive(Clone, Copy)]
@@ -51,4 +52,25 @@ pub(in crate::proved::vm_space) fn refusal_of(place: &Place, search: &Search) ->
 #[inline(always)]
 pub(in crate::proved::vm_space) fn has_room(leaf: &Leaf, rest: Rest) -> bool {
     leaf.len() <= CAPACITY - rest.added() as usize
+}
+
+/// Returns how much of `most` has to be left if a gap with `gone` is taken: all of it, unless the gap has less.
+#[inline(always)]
+fn to_be_left(gone: u64, most: u64) -> u64 {
+    if gone < most {
+        0
+    } else {
+        most
+    }
+}
+
+/// Allocates a place in a leaf, which has room for it. Returns true if the entry of the leaf was `was` and still is.
+#[inline(always)]
+pub(in crate::proved::vm_space) fn take_place(leaf: &mut Leaf, place: &Place, was: &Entry) -> bool {
+    leaf.split(place.index, place.range, place.rest);
+    let gap = Summary::of_gap(&place.gap);
+    leaf.reaches(
+        to_be_left(gap.longest, was.longest),
+        to_be_left(gap.alignments.into(), was.alignments),
+    )
 }

@@ -69,7 +69,7 @@ impl Space {
     /// Proof: the tree is valid.
     pub(in crate::proved) fn facts(&self) {
         self.tree.facts();
-        if let Some(leaf) = self.tree.leaf_at(0) {
+        if let Some(leaf) = self.tree.only_leaf() {
             let _len = leaf.len();
         }
     }

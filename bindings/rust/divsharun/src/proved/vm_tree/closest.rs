@@ -5,7 +5,7 @@
 use crate::proved::vm_tree::leaf::Leaf;
 use crate::proved::vm_tree::node::Node;
 use crate::proved::vm_tree::search::Seek;
-use crate::proved::vm_tree::seek::{seek_at, seek_leaf};
+use crate::proved::vm_tree::seek::{seek_at, seek_root};
 use crate::proved::vm_tree::tree::{has_changed, leaf_root, node_root, Root, Tree};
 use crate::proved::vm_tree::window::{kid_count, low_kid, next_kid};
 use crate::rattle::{AllocError, Global};
@@ -13,6 +13,7 @@ use crate::rattle::{Box, Vec};
 use core::mem;
 
 /// Returns true if a child of a node may have a place. Otherwise the node has none.
+#[inline(always)]
 fn may_enter<L: Leaf, S: Seek<L>>(node: &Node<L>, seek: &S) -> bool {
     let end = seek.end();
     let from = low_kid(&node.entries, seek.low());
@@ -30,12 +31,8 @@ fn seek_leaf_root<L: Leaf, S: Seek<L>>(
     alloc: Global,
     count: &mut u64,
 ) -> (Root<L>, Result<Option<bool>, AllocError>) {
-    let was = leaf.entry();
-    if !seek.fits(&was) {
-        return (Root::Leaf(leaf), Ok(None));
-    }
     let mut spares = Vec::new(alloc);
-    match seek_leaf(&mut *leaf, was, seek, 1, &mut spares, alloc, count) {
+    match seek_root(&mut *leaf, seek, &mut spares, alloc, count) {
         Ok(Some(outcome)) => {
             let done = has_changed(&outcome);
             (leaf_root(leaf, outcome, &mut spares), Ok(Some(done)))

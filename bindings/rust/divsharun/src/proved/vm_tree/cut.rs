@@ -2,7 +2,7 @@
 
 //! A change of one leaf that leaves it fewer items, and what it changes above it.
 
-use crate::proved::vm_tree::entries::{Entries, Entry, FANOUT};
+use crate::proved::vm_tree::entries::{Entries, Entry, FANOUT, MOST};
 use crate::proved::vm_tree::grow::is_same;
 use crate::proved::vm_tree::leaf::Leaf;
 use crate::proved::vm_tree::mend::{mend_leaves, mend_nodes};
@@ -15,15 +15,16 @@ pub(in crate::proved) enum Cutting {
     Refused,
     /// It changed the leaf, but not what is stored beside it.
     Same,
-    /// It changed the leaf.
-    Changed,
-    /// It changed the leaf, which may have too few items.
-    Small,
+    /// It changed the leaf, which has this entry now.
+    Changed(Entry),
+    /// It changed the leaf, which has this entry now, and may have too few items.
+    Small(Entry),
 }
 
 /// A change of one leaf that leaves it fewer items.
 pub(in crate::proved) trait Cut<L: Leaf> {
-    /// Changes a leaf, beside which `was` is stored.
+    /// Changes a leaf, beside which `was` is stored. If the leaf is a root, then `was` is not its entry, and the result
+    /// does not tell the entry.
     fn cut(&mut self, leaf: &mut L, was: Entry) -> Cutting;
 }
 
@@ -41,6 +42,7 @@ pub(in crate::proved::vm_tree) enum Shrunk {
 }
 
 /// Changes a leaf.
+#[inline(always)]
 pub(in crate::proved::vm_tree) fn cut_leaf<L: Leaf, E: Cut<L>>(
     leaf: &mut L,
     was: Entry,
@@ -49,21 +51,24 @@ pub(in crate::proved::vm_tree) fn cut_leaf<L: Leaf, E: Cut<L>>(
     match edit.cut(leaf, was) {
         Cutting::Refused => Shrunk::Refused,
         Cutting::Same => Shrunk::Same,
-        Cutting::Changed => Shrunk::Changed(leaf.entry()),
-        Cutting::Small => Shrunk::Small(leaf.entry()),
+        Cutting::Changed(entry) => Shrunk::Changed(entry),
+        Cutting::Small(entry) => Shrunk::Small(entry),
     }
 }
 
-/// Changes a leaf that is a root.
-pub(in crate::proved::vm_tree) fn cut_root<L: Leaf, E: Cut<L>>(
-    leaf: &mut L,
-    edit: &mut E,
-) -> Shrunk {
-    let was = leaf.entry();
-    cut_leaf(leaf, was, edit)
+/// Changes a leaf that is a root. Returns false if it refused, and nothing was changed.
+#[inline(always)]
+pub(in crate::proved::vm_tree) fn cut_root<L: Leaf, E: Cut<L>>(leaf: &mut L, edit: &mut E) -> bool {
+    match edit.cut(leaf, MOST) {
+        Cutting::Refused => false,
+        Cutting::Same => true,
+        Cutting::Changed(_) => true,
+        Cutting::Small(_) => true,
+    }
 }
 
 /// Returns `Same` if the entry of a child is as before.
+#[inline(always)]
 fn quiet(outcome: Shrunk, was: Entry) -> Shrunk {
     match outcome {
         Shrunk::Refused => Shrunk::Refused,
@@ -79,6 +84,7 @@ fn quiet(outcome: Shrunk, was: Entry) -> Shrunk {
 }
 
 /// Changes the child `i`, a leaf.
+#[inline(always)]
 fn cut_leaf_at<L: Leaf, E: Cut<L>>(
     slots: &mut [Option<Box<L>>; FANOUT],
     i: usize,
@@ -119,6 +125,7 @@ fn small_of(entries: &Entries) -> Shrunk {
 }
 
 /// Changes the child `i` of a node, a leaf.
+#[inline(always)]
 fn cut_leaves<L: Leaf, E: Cut<L>>(
     entries: &mut Entries,
     slots: &mut [Option<Box<L>>; FANOUT],
@@ -144,6 +151,7 @@ fn cut_leaves<L: Leaf, E: Cut<L>>(
 }
 
 /// Changes the child `i`, a node.
+#[inline(always)]
 fn cut_node_at<L: Leaf, E: Cut<L>>(
     slots: &mut [Option<Box<Node<L>>>; FANOUT],
     i: usize,
@@ -163,6 +171,7 @@ fn cut_node_at<L: Leaf, E: Cut<L>>(
 }
 
 /// Changes the child `i` of a node, a node.
+#[inline(always)]
 fn cut_nodes<L: Leaf, E: Cut<L>>(
     entries: &mut Entries,
     slots: &mut [Option<Box<Node<L>>>; FANOUT],

@@ -2,11 +2,11 @@
 
 //! A change of one leaf of a tree, and what it changes above it.
 
-use crate::proved::vm_tree::entries::{Entries, Entry, FANOUT};
-use crate::proved::vm_tree::grow::settle;
+use crate::proved::vm_tree::entries::{Entries, Entry, FANOUT, MOST};
 use crate::proved::vm_tree::leaf::{Change, Edit, Leaf};
 use crate::proved::vm_tree::node::{Kids, Node};
-use crate::proved::vm_tree::outcome::{Halves, Outcome, Settled, Upper};
+use crate::proved::vm_tree::outcome::{Halves, Outcome};
+use crate::proved::vm_tree::settle::{settle_leaves, settle_nodes};
 use crate::proved::vm_tree::slots::no_slots;
 use crate::rattle::{AllocError, Global};
 use crate::rattle::{Box, Vec};
@@ -27,6 +27,7 @@ impl<L: Leaf> Node<L> {
 }
 
 /// Allocates spare nodes until there are `n`.
+#[inline(never)]
 pub(in crate::proved) fn reserve_nodes<L: Leaf>(
     spares: &mut Vec<Box<Node<L>>>,
     n: usize,
@@ -38,7 +39,24 @@ pub(in crate::proved) fn reserve_nodes<L: Leaf>(
     Ok(())
 }
 
+/// Splits a leaf that has no room for its change. Before the change there are `full` nodes in `spares`.
+#[inline(never)]
+fn split_leaf<L: Leaf, E: Edit<L>>(
+    leaf: &mut L,
+    edit: &mut E,
+    full: usize,
+    spares: &mut Vec<Box<Node<L>>>,
+    alloc: Global,
+) -> Result<Halves<L>, AllocError> {
+    reserve_nodes(spares, full, alloc)?;
+    let upper = edit.split(leaf, alloc)?;
+    let low = leaf.entry();
+    let high = upper.entry();
+    Ok(Halves { low, high, upper })
+}
+
 /// Changes a leaf. It is split if it has no room: then `full` nodes are allocated before the change.
+#[inline(always)]
 pub(in crate::proved::vm_tree) fn edit_leaf<L: Leaf, E: Edit<L>>(
     leaf: &mut L,
     was: Entry,
@@ -52,28 +70,29 @@ pub(in crate::proved::vm_tree) fn edit_leaf<L: Leaf, E: Edit<L>>(
         Change::Same => Ok(Outcome::Same),
         Change::Changed => Ok(Outcome::Changed(leaf.entry())),
         Change::OutOfMemory => Err(AllocError),
-        Change::Full => {
-            reserve_nodes(spares, full, alloc)?;
-            let upper = edit.split(leaf, alloc)?;
-            let low = leaf.entry();
-            let high = upper.entry();
-            Ok(Outcome::Split(Halves { low, high, upper }))
-        }
+        Change::Full => Ok(Outcome::Split(split_leaf(leaf, edit, full, spares, alloc)?)),
     }
 }
 
-/// Changes a leaf that is a root.
+/// Changes a leaf that is a root, beside which no entry is stored.
+#[inline(always)]
 pub(in crate::proved::vm_tree) fn edit_root<L: Leaf, E: Edit<L>>(
     leaf: &mut L,
     edit: &mut E,
     spares: &mut Vec<Box<Node<L>>>,
     alloc: Global,
 ) -> Result<Outcome<L>, AllocError> {
-    let was = leaf.entry();
-    edit_leaf(leaf, was, edit, 1, spares, alloc)
+    match edit.change(leaf, MOST) {
+        Change::Refused => Ok(Outcome::Refused),
+        Change::Same => Ok(Outcome::Same),
+        Change::Changed => Ok(Outcome::Same),
+        Change::OutOfMemory => Err(AllocError),
+        Change::Full => Ok(Outcome::Split(split_leaf(leaf, edit, 1, spares, alloc)?)),
+    }
 }
 
 /// Changes the child `i`, a leaf.
+#[inline(always)]
 fn edit_leaf_at<L: Leaf, E: Edit<L>>(
     slots: &mut [Option<Box<L>>; FANOUT],
     i: usize,
@@ -94,63 +113,8 @@ fn edit_leaf_at<L: Leaf, E: Edit<L>>(
     }
 }
 
-/// Takes a node for the upper half of the children, which are leaves.
-pub(in crate::proved::vm_tree) fn finish_leaves<L: Leaf>(
-    settled: Settled<L>,
-    spares: &mut Vec<Box<Node<L>>>,
-) -> Outcome<Node<L>> {
-    match settled {
-        Settled::Refused => Outcome::Refused,
-        Settled::Same => Outcome::Same,
-        Settled::Changed(entry) => Outcome::Changed(entry),
-        Settled::Split(half) => {
-            let Upper {
-                low,
-                high,
-                entries,
-                slots,
-            } = half;
-            let Some(mut upper) = spares.pop() else {
-                unreachable!()
-            };
-            *upper = Node {
-                entries,
-                kids: Kids::Leaves(slots),
-            };
-            Outcome::Split(Halves { low, high, upper })
-        }
-    }
-}
-
-/// Takes a node for the upper half of the children, which are nodes.
-pub(in crate::proved::vm_tree) fn finish_nodes<L: Leaf>(
-    settled: Settled<Node<L>>,
-    spares: &mut Vec<Box<Node<L>>>,
-) -> Outcome<Node<L>> {
-    match settled {
-        Settled::Refused => Outcome::Refused,
-        Settled::Same => Outcome::Same,
-        Settled::Changed(entry) => Outcome::Changed(entry),
-        Settled::Split(half) => {
-            let Upper {
-                low,
-                high,
-                entries,
-                slots,
-            } = half;
-            let Some(mut upper) = spares.pop() else {
-                unreachable!()
-            };
-            *upper = Node {
-                entries,
-                kids: Kids::Nodes(slots),
-            };
-            Outcome::Split(Halves { low, high, upper })
-        }
-    }
-}
-
 /// Returns the number of nodes to be allocated if a child of a node is split: one more if the node is full.
+#[inline(always)]
 pub(in crate::proved::vm_tree) fn full_with(len: usize, full: usize) -> usize {
     if len < FANOUT {
         0
@@ -160,6 +124,7 @@ pub(in crate::proved::vm_tree) fn full_with(len: usize, full: usize) -> usize {
 }
 
 /// Changes the child `i` of a node, a leaf.
+#[inline(always)]
 fn edit_leaves<L: Leaf, E: Edit<L>>(
     entries: &mut Entries,
     slots: &mut [Option<Box<L>>; FANOUT],
@@ -174,11 +139,11 @@ fn edit_leaves<L: Leaf, E: Edit<L>>(
     let full = full_with(entries.len(), full);
     let was = entries.entry(i);
     let outcome = edit_leaf_at(slots, i, was, edit, full, spares, alloc, count)?;
-    let settled = settle(entries, slots, i, outcome);
-    Ok(finish_leaves(settled, spares))
+    Ok(settle_leaves(entries, slots, i, outcome, spares))
 }
 
 /// Changes the child `i`, a node.
+#[inline(always)]
 fn edit_node_at<L: Leaf, E: Edit<L>>(
     slots: &mut [Option<Box<Node<L>>>; FANOUT],
     i: usize,
@@ -199,6 +164,7 @@ fn edit_node_at<L: Leaf, E: Edit<L>>(
 }
 
 /// Changes the child `i` of a node, a node.
+#[inline(always)]
 fn edit_nodes<L: Leaf, E: Edit<L>>(
     entries: &mut Entries,
     slots: &mut [Option<Box<Node<L>>>; FANOUT],
@@ -212,8 +178,7 @@ fn edit_nodes<L: Leaf, E: Edit<L>>(
 ) -> Result<Outcome<Node<L>>, AllocError> {
     let full = full_with(entries.len(), full);
     let outcome = edit_node_at(slots, i, key, edit, full, spares, alloc, count)?;
-    let settled = settle(entries, slots, i, outcome);
-    Ok(finish_nodes(settled, spares))
+    Ok(settle_nodes(entries, slots, i, outcome, spares))
 }
 
 /// Changes the leaf to which a key belongs, below a node. If the node is split, then its upper half is

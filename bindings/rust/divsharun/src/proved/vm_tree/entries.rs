@@ -17,6 +17,13 @@ pub(in crate::proved) struct Entry {
     pub(in crate::proved) alignments: u64,
 }
 
+/// No entry is above it. A change of a root is told it, because no entry of a root is stored.
+pub(in crate::proved::vm_tree) const MOST: Entry = Entry {
+    at: 0,
+    longest: u64::MAX,
+    alignments: u64::MAX,
+};
+
 /// The entries of up to `FANOUT` children, each part in an array.
 #[derive(Debug)]
 #[repr(C)]

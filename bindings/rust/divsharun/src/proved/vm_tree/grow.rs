@@ -75,6 +75,20 @@ pub(in crate::proved::vm_tree) fn is_same(a: &Entry, b: &Entry) -> bool {
     a.at == b.at && a.longest == b.longest && a.alignments == b.alignments
 }
 
+/// Writes the entry of the child `i`. Returns the sum of all, or `None` if the entry is as before.
+#[inline(always)]
+pub(in crate::proved::vm_tree) fn note(
+    entries: &mut Entries,
+    i: usize,
+    entry: Entry,
+) -> Option<Entry> {
+    if is_same(&entries.entry(i), &entry) {
+        return None;
+    }
+    entries.set_entry(i, entry);
+    Some(entries.sum())
+}
+
 /// Writes what was done with the child `i` into the node above it.
 pub(in crate::proved::vm_tree) fn settle<C>(
     entries: &mut Entries,
@@ -85,13 +99,10 @@ pub(in crate::proved::vm_tree) fn settle<C>(
     match outcome {
         Outcome::Refused => Settled::Refused,
         Outcome::Same => Settled::Same,
-        Outcome::Changed(entry) => {
-            if is_same(&entries.entry(i), &entry) {
-                return Settled::Same;
-            }
-            entries.set_entry(i, entry);
-            Settled::Changed(entries.sum())
-        }
+        Outcome::Changed(entry) => match note(entries, i, entry) {
+            None => Settled::Same,
+            Some(sum) => Settled::Changed(sum),
+        },
         Outcome::Split(halves) => {
             let Halves { low, high, upper } = halves;
             entries.set_entry(i, low);

@@ -32,7 +32,7 @@ pub(in crate::proved) enum Change {
 
 /// A change of one leaf.
 pub(in crate::proved) trait Edit<L: Leaf> {
-    /// Changes a leaf, beside which `was` is stored.
+    /// Changes a leaf, beside which `was` is stored. If the leaf is a root, then `was` is not its entry.
     fn change(&mut self, leaf: &mut L, was: Entry) -> Change;
 
     /// Changes a leaf that has no room: its upper part is moved to another leaf. An error changes nothing.

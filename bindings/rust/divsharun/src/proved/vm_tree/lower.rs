@@ -44,9 +44,9 @@ impl<L: Leaf> Tree<L> {
             Root::Empty => unreachable!(),
             Root::Leaf(mut leaf) => {
                 *count = count.saturating_add(1);
-                let outcome = cut_root(&mut *leaf, edit);
+                let done = cut_root(&mut *leaf, edit);
                 self.root = Root::Leaf(leaf);
-                has_shrunk(&outcome)
+                done
             }
             Root::Inner(mut node) => {
                 let outcome = cut_at(&mut *node, key, edit, count);

@@ -22,6 +22,7 @@ mod outcome;
 mod read;
 mod search;
 mod seek;
+mod settle;
 mod shrink;
 mod slots;
 mod tree;

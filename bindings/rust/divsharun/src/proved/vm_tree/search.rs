@@ -23,6 +23,7 @@ pub(in crate::proved) trait Seek<L: Leaf> {
     fn fits(&self, entry: &Entry) -> bool;
 
     /// Changes the leaf, beside which `was` is stored, if it has a place. Returns `None` if it has none.
+    /// If the leaf is a root, then `was` is not its entry.
     fn seek(&mut self, leaf: &mut L, was: Entry) -> Option<Change>;
 
     /// Changes a leaf that has no room: its upper part is moved to another leaf. An error does not change the leaf.

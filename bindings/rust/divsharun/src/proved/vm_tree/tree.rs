@@ -124,6 +124,22 @@ impl<L: Leaf> Tree<L> {
         }
     }
 
+    /// Returns the only leaf, or `None` if there is none or the root is a node.
+    #[inline(always)]
+    pub(in crate::proved) fn only_leaf(&self) -> Option<&L> {
+        match &self.root {
+            Root::Empty => None,
+            Root::Leaf(leaf) => {
+                let leaf: &L = leaf;
+                Some(leaf)
+            }
+            Root::Inner(node) => {
+                node.facts();
+                None
+            }
+        }
+    }
+
     /// Returns the leaf to which a key belongs, if there is one.
     pub(in crate::proved) fn leaf_at(&self, key: u64) -> Option<&L> {
         match &self.root {

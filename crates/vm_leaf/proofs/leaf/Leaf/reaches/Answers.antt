@@ -1,5 +1,5 @@
 -- The gaps so far are summed up. The prover does not find that a gap in the mask is a block of the leaf.
-use Rattle.std.proofs.Common.{rules, arith, ◌≡◌, ◌+◌, ◌<◌, max, length, refl}
+use Rattle.std.proofs.Common.{rules, arith, ◌≡◌, ◌+◌, max, refl}
 use Rattle.std.proofs.lemmas.Grind.{common_steps}
 use Rattle.vm_leaf.specs.GapMasks.{IsLowestOne}
 use Rattle.vm_leaf.specs.Blocks.{nth}

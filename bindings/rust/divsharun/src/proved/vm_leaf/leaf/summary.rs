@@ -55,6 +55,23 @@ impl Leaf {
         (key.len(), reach(key.start(), key.end()))
     }
 
+    /// Returns true only if a gap has at least `longest` addresses, and a gap at least `alignments` alignments.
+    ///
+    /// It ends at the first gaps that have them.
+    #[inline(always)]
+    pub(in crate::proved) fn reaches(&self, longest: u64, alignments: u64) -> bool {
+        let (mut most, mut reached) = (0, 0);
+        let mut gaps = self.gaps();
+        while gaps != 0 && (most < longest || u64::from(bit_length(reached)) < alignments) {
+            let i = lowest_one(gaps);
+            gaps = without_lowest(gaps);
+            let (length, reach) = self.measure(i);
+            most = most.max(length);
+            reached |= reach;
+        }
+        longest <= most && alignments <= u64::from(bit_length(reached))
+    }
+
     /// Returns the summary of the gaps of the leaf.
     ///
     /// The processor can measure the two gaps of a turn at once. If only one is left, both are that one.

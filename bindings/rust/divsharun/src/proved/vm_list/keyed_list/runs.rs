@@ -20,9 +20,9 @@ impl Cut<Chunk<Run>> for Pop {
             return Cutting::Refused;
         }
         if leaf.len() < before && leaf.len() < MIN_ENTRIES {
-            return Cutting::Small;
+            return Cutting::Small(leaf.entry());
         }
-        Cutting::Changed
+        Cutting::Changed(leaf.entry())
     }
 }
 
