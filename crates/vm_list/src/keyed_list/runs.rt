@@ -6,7 +6,7 @@ ghost use Rattle.vm_list.specs.Puts.{IsPopped};
 use super::KeyedList;
 use crate::chunk::{Chunk, MIN_ENTRIES};
 use crate::id_set::Run;
-use vm_tree::{Cut, Cutting, Entry, Leaf};
+use vm_tree::{Cut, Cutting, Entry};
 
 /// Takes the lowest id out of a leaf.
 #[derive(Drop)]
@@ -28,9 +28,9 @@ impl Cut<Chunk<Run>> for Pop {
             return Cutting::Refused;
         }
         if leaf.len() < before && leaf.len() < MIN_ENTRIES {
-            return Cutting::Small(leaf.entry());
+            return Cutting::Small(vm_tree::Leaf::entry(leaf));
         }
-        Cutting::Changed(leaf.entry())
+        Cutting::Changed(vm_tree::Leaf::entry(leaf))
     }
 }
 

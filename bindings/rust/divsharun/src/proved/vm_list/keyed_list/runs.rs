@@ -20,9 +20,9 @@ impl Cut<Chunk<Run>> for Pop {
             return Cutting::Refused;
         }
         if leaf.len() < before && leaf.len() < MIN_ENTRIES {
-            return Cutting::Small(leaf.entry());
+            return Cutting::Small(crate::proved::vm_tree::Leaf::entry(leaf));
         }
-        Cutting::Changed(leaf.entry())
+        Cutting::Changed(crate::proved::vm_tree::Leaf::entry(leaf))
     }
 }
 
