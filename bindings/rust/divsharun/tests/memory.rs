@@ -34,8 +34,8 @@ const FIRST: u64 = 2;
 /// The allocations of a split of a full leaf that is the whole tree: a leaf, a list of nodes, and a root.
 const SPLIT: u64 = 3;
 
-/// The allocations of a move of one of the 16 ranges: a leaf, a list, and a node for each of the two levels that a tree
-/// of 16 ranges can have.
+/// The allocations of a move of one of the 16 ranges to a part of the gap that it leaves: a leaf, a list, and a node for
+/// each of the two levels that a tree of 16 ranges can have.
 const MOVE: u64 = 4;
 
 type Tried = Result<(), TryError>;
