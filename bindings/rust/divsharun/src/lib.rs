@@ -109,10 +109,9 @@
 //! is one leaf can have fewer. Other trees have inner nodes of 528 bytes, with 5 to 16 children each, and at
 //! least 2 in the root. Allocating or moving a range allocates nothing if its leaf has room. Otherwise it
 //! allocates a leaf, a node for each full node right above the leaf, one for a new root if all are full, and
-//! a list of these nodes. A move to a part of the gap that it leaves always allocates a leaf, and a list of as
-//! many nodes as a tree of these ranges can have levels. `allocate_all` also allocates three
-//! lists. A copy allocates all leaves and nodes, `with_held` also a list, and
-//! `with_free` two. Reserving or moving a device, freeing, skipping or copying ids, and keeping, moving or
+//! a list of these nodes. A move to a part of the gap that it leaves always allocates a leaf, and a list of
+//! nodes for the highest tree of these ranges. `allocate_all` also allocates three lists. A copy allocates
+//! all leaves and nodes, `with_held` also a list, and `with_free` two. Reserving or moving a device, freeing, skipping or copying ids, and keeping, moving or
 //! copying the values of a map can allocate.
 //!
 //! # Threads

@@ -45,8 +45,8 @@ type EndedCall = fn(&mut AddressAllocator);
 // src/lib.rs: "Allocating or moving a range allocates nothing if its leaf has room. Otherwise it
 // allocates a leaf, a node for each full node right above the leaf, one for a new root if all are full,
 // and a list of these nodes. A move to a part of the gap that it leaves always allocates a leaf, and a
-// list of as many nodes as a tree of these ranges can have levels. `allocate_all` also allocates three
-// lists. A copy allocates all leaves and nodes, `with_held` also a list, and `with_free` two."
+// list of nodes for the highest tree of these ranges. `allocate_all` also allocates three lists. A copy
+// allocates all leaves and nodes, `with_held` also a list, and `with_free` two."
 
 /// Calls that return an error, each with the number of its allocations on [`full_leaf`]: one for each
 /// leaf and inner node of a new tree or of a copy, and three for a split of the full leaf. A call with
