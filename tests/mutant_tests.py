@@ -5,9 +5,8 @@
 
 No clause excludes these mutants. The first line of one names the check and parts of its output, as in
 `CHECK: TEXT & TEXT`. The check is error_rule, count_rule, or a test of divsharun: memory, calls or replay. The rest
-are files, each with the text to replace (-), which it has once in any layout, and the new text (+). count_rule
-compiles the sources, so its mutants are checked together. The exit status is 1 if a mutant is not noticed, or if a
-test fails without one."""
+are files, each with the text to replace (-), which it has once in any layout, and the new text (+). The exit status is 1
+if a mutant is not noticed, or if a test fails without one."""
 import collections
 import glob
 import os
@@ -44,13 +43,13 @@ def make(mutant):
     return ""
 
 
-def output_of(check, mutants):
-    """Makes mutants in a copy of the sources. Returns the status and the output of a check."""
+def output_of(check, mutant=None):
+    """Makes a mutant in a copy of the sources. Returns the status and the output of a check."""
     shutil.rmtree(COPY, ignore_errors=True)
     others = shutil.ignore_patterns("must-fail", "out", "proofs", "specs")
     shutil.copytree(os.path.join(PROJECT, "crates"), os.path.join(COPY, "crates"), ignore=others)
     shutil.copy(os.path.join(PROJECT, "crates.txt"), COPY)
-    if wrong := "".join(map(make, mutants)):
+    if mutant and (wrong := make(mutant)):
         return 1, wrong
     if check in RULES:
         return run(os.path.join(TOP, "tests", check), COPY)
@@ -68,12 +67,12 @@ def main():
         check, texts = pathlib.Path(mutant).read_text("utf-8").split("\n")[0].split(": ", 1)
         checks[check][mutant] = texts.split(" & ")
     for check, texts in checks.items():
-        if check not in RULES and output_of(check, [])[0]:
+        if check not in RULES and output_of(check)[0]:
             wrong.append(f"{check}.rs fails without a mutant")
-        for group in [[*texts]] if check == "count_rule" else [[mutant] for mutant in texts]:
-            status, output = output_of(check, group)
+        for mutant in texts:
+            status, output = output_of(check, mutant)
             wrong += [f"{mutant}: {check} does not print '{text}': {output[-1500:]}"
-                      for mutant in group for text in texts[mutant] if not status or text not in output]
+                      for text in texts[mutant] if not status or text not in output]
     print(*wrong, f"{len(mutants)} mutants, {len(wrong)} faults", sep="\n")
     sys.exit(len(wrong) > 0)
 

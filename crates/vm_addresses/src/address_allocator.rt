@@ -166,7 +166,7 @@ impl AddressAllocator {
     ///
     /// A gap is a run of free addresses with no free address next to it. A range that fills its gap
     /// needs no memory, and always succeeds if it ends below `u64::MAX`. Any other range splits its
-    /// gap, which allocates nothing, or one leaf and one node.
+    /// gap, which allocates nothing, or a leaf and nodes above it.
     ///
     /// # Errors
     ///
@@ -326,9 +326,9 @@ impl AddressAllocator {
 
     /// Returns the height of the tree: the number of nodes on its longest path, at most 48.
     ///
-    /// A leaf is a node, and has up to 32 blocks. The tree is balanced. Let h be its height, and k the number
-    /// of allocated ranges. Then F(h + 2) is at most 2k + 2. If h is above 1, 12 F(h + 1) is at most 2k + 1.
-    /// F is the Fibonacci sequence 1, 1, 2, 3, 5.
+    /// A leaf is a node, and has up to 32 blocks. All leaves are at the same depth. Let h be the height, and k
+    /// the number of allocated ranges. Then F(h + 2) is at most 2k + 2. If h is above 1, 12 F(h + 1) and
+    /// 24 * 5^(h - 2) are at most 2k + 1. F is the Fibonacci sequence 1, 1, 2, 3, 5.
     #[tactic(auto, using(crate::proofs::Counts::Balanced::balanced))]
     pub fn height(&self) -> u64
         ensures value { result ≡ height_of self.now }

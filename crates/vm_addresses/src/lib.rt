@@ -1,6 +1,6 @@
 //! Allocators of address ranges.
 //!
-//! - [`AddressAllocator`] allocates ranges of 64-bit addresses from one space. Its blocks are in a balanced
+//! - [`AddressAllocator`] allocates ranges of 64-bit addresses from one space. Its blocks are in a
 //!   tree.
 //! - [`Ranges`] iterates over the allocated ranges, or over the gaps between them. [`RangesIn`] iterates
 //!   over those in a window, and [`AllBlocks`] over both.
@@ -21,7 +21,7 @@
 //!   the same state.
 //! - In `vm_laws`, for every list of calls: held ranges are valid and disjoint, and the state decides the
 //!   results, unless memory runs out.
-//! - The number of nodes that an allocation and a successful free enter (`IsAllocationCount`,
+//! - Bounds on the number of nodes that an allocation and a free enter (`IsAllocationCount`,
 //!   `IsFreeCount`).
 //! - A saved tree is read if and only if it is valid, with and without repairs.
 //!

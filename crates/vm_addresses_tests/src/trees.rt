@@ -51,8 +51,8 @@ fn full_leaf(rt: &(impl Abort + AllocGlobal)) -> IntervalTree {
     tree
 }
 
-/// Splits a full leaf, which allocates a leaf and a node. Nothing changes if memory runs out, and the same call then
-/// succeeds.
+/// Splits a full leaf, which allocates a leaf, a root and a list of nodes. Nothing changes if memory runs out, and the same
+/// call then succeeds.
 fn split(rt: &(impl Abort + AllocGlobal), policy: AllocPolicy, start: u64) {
     let (mut tree, before) = (full_leaf(rt), full_leaf(rt));
     fail_from_here(rt.alloc());

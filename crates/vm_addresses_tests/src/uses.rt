@@ -10,7 +10,6 @@ ghost use Rattle.vm_allocator.specs.Answer.{FillsGap};
 ghost use Rattle.vm_allocator.specs.Comparison.{state_cmp};
 ghost use Rattle.vm_allocator.specs.Conflicts.{ConflictDecides};
 ghost use Rattle.vm_allocator.specs.Counts.GapSearch.{SearchesGaps};
-ghost use Rattle.vm_allocator.specs.Counts.Steps.{EntersToAllocate};
 ghost use Rattle.vm_allocator.specs.Moves.{MovesRange};
 ghost use Rattle.vm_allocator.specs.Peeks.{Peeks};
 ghost use Rattle.vm_allocator.specs.ListConflicts.{fault_at, list_error};
@@ -143,14 +142,19 @@ fn parts(space: &AddressAllocator) -> AllBlocks<'_>
     space.blocks()
 }
 
-/// Returns the number of nodes that an allocation enters.
-fn entered(alloc: Global, space: &mut AddressAllocator, size: u64) -> u64
-    ensures few { result ≤ 2 * length (state_of space.old).held + 1 }
-    ensures bounds { EntersToAllocate space.old (request_for size 1 AllocPolicy.LastMatch) result }
+/// Allocates the highest range. Returns the height of the tree before, the result, and the number of nodes that are
+/// entered.
+fn entered(
+    alloc: Global,
+    space: &mut AddressAllocator,
+    size: u64,
+) -> (u64, Result<RangeInclusive>, u64)
+    ensures few { result.2 ≤ 2 * length (state_of space.old).held + 1 }
+    ensures path { IsOk result.1 → (1 ≤ result.2) × (result.0 ≤ 2 * result.2) }
 {
-    space
-        .allocate_counted(alloc, size, 1, AllocPolicy::LastMatch)
-        .1
+    let height = space.height();
+    let (answer, count) = space.allocate_counted(alloc, size, 1, AllocPolicy::LastMatch);
+    (height, answer, count)
 }
 
 /// Allocates the lowest range. Returns the height of the tree before, the result, and the number of nodes that are
@@ -262,9 +266,10 @@ fn uses_of_requests(rt: HostRuntime) {
     let mut space = made(&rt, 0, 16);
     let high = upper_half(&rt);
     expect_eq(&rt, blocker(&space, high), None, "the upper half");
-    let upper = Ok(range(&rt, 8, 15));
-    expect_eq(&rt, would_fit(&space, high), upper, "it would fit");
-    expect_eq(&rt, entered(rt.alloc(), &mut space, 8), 1, "the same");
+    let upper = range(&rt, 8, 15);
+    expect_eq(&rt, would_fit(&space, high), Ok(upper), "it would fit");
+    let same = (1, Ok(upper), 1);
+    expect_eq(&rt, entered(rt.alloc(), &mut space, 8), same, "the same");
     let low = (1, Ok(range(&rt, 0, 3)), 1);
     expect_eq(
         &rt,

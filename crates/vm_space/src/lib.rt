@@ -18,7 +18,7 @@
 //!
 //! # What is only tested
 //!
-//! - Nothing yet, because no other crate uses this one.
+//! - How often memory is allocated, and how long a call takes.
 #![tactic(auto)]
 
 mod build;

@@ -39,7 +39,7 @@ use vm_leaf::{Block, BlockStart, Leaf};
 use vm_ranges::{NodeState, RangeInclusive};
 use vm_tree::{End, Tree};
 
-/// The blocks of a space in a balanced tree.
+/// The blocks of a space, in the leaves of a tree.
 #[derive(Drop)]
 pub struct Space {
     tree: Tree<Leaf>,

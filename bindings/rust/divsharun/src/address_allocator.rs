@@ -1030,8 +1030,8 @@ impl AddressAllocator {
     /// Returns the height of the tree: the number of nodes on its longest path, at most 48. A leaf is a
     /// node, and has up to 32 allocated ranges and gaps.
     ///
-    /// The tree is balanced. Let h be its height with k allocated ranges. If h is above 1,
-    /// 12 F(h + 1) is at most 2k + 1, where F is the Fibonacci sequence 1, 1, 2, 3, 5.
+    /// All leaves are at the same depth. Let h be the height with k allocated ranges. If h is above 1,
+    /// 24 * 5^(h - 2) is at most 2k + 1.
     ///
     /// # Example
     ///
@@ -1043,8 +1043,8 @@ impl AddressAllocator {
     /// for _ in 0..1000 {
     ///     mmio.allocate(0x1000, 0x1000, AllocPolicy::FirstMatch)?;
     /// }
-    /// // F(12) is 144, and 12 F(13) is 2796, which is more than 2001.
-    /// assert!(mmio.height() <= 11);
+    /// // 24 * 5^3 is 3000, which is more than 2001.
+    /// assert!(mmio.height() <= 4);
     /// # Ok::<(), divsharun::Error>(())
     /// ```
     #[must_use]

@@ -105,12 +105,13 @@
 //! iterator takes logarithmic time, and `count` of an iterator with an exact length constant time. Other
 //! calls of allocators, managers and maps take at most linear time.
 //!
-//! The allocated ranges and gaps are in leaves of 280 bytes, with 12 to 32 of them in each leaf, and an
-//! inner node of 56 bytes joins two subtrees. A tree that is one leaf can have fewer. Allocating or moving
-//! a range allocates a leaf and an inner node if its leaf would have more than 32, and otherwise nothing.
-//! A move to a part of the gap that it leaves always allocates both. `allocate_all` also allocates three
-//! lists. A copy allocates all leaves and nodes, `with_held` also a list, and
-//! `with_free` two. Reserving or moving a device, freeing, skipping or copying ids, and keeping, moving or
+//! The allocated ranges and gaps are in leaves of 280 bytes, with 12 to 32 of them in each leaf. A tree that
+//! is one leaf can have fewer. Other trees have inner nodes of 528 bytes, with 5 to 16 children each, and at
+//! least 2 in the root. Allocating or moving a range allocates nothing if its leaf has room. Otherwise it
+//! allocates a leaf, a node for each full node right above the leaf, one for a new root if all are full, and
+//! a list of these nodes. A move to a part of the gap that it leaves always allocates a leaf, and a list of
+//! nodes for the highest tree of these ranges. `allocate_all` also allocates three lists. A copy allocates
+//! all leaves and nodes, `with_held` also a list, and `with_free` two. Reserving or moving a device, freeing, skipping or copying ids, and keeping, moving or
 //! copying the values of a map can allocate.
 //!
 //! # Threads

@@ -1510,17 +1510,12 @@ fn other_words_find_a_call() {
     }
 }
 
-/// Returns the number at index `n` of the Fibonacci sequence 0, 1, 1, 2, 3, 5, ...
-fn fibonacci(n: u64) -> u64 {
-    (0..n).fold((0, 1), |(low, high), _| (high, low + high)).0
-}
-
-/// Checks the height of a space with this number of allocated ranges. A node of a tree has two subtrees, whose
-/// heights differ by at most one, and a leaf has at least 12 blocks.
+/// Checks the height of a space with this number of allocated ranges. All leaves are at the same depth. A leaf has at least
+/// 12 blocks, and a node at least 5 children, or 2 if it is the root.
 fn expect_low(space: &AddressAllocator, held: u64) {
-    let (height, blocks) = (space.height(), 2 * held + 1);
+    let height = space.height() as u32;
     assert_eq!(space.held_count(), held);
-    assert!(height == 1 || 12 * fibonacci(height + 1) <= blocks);
+    assert!(height == 1 || 24 * 5_u64.pow(height - 2) <= 2 * held + 1);
 }
 
 /// Checks the counts in a space that is filled by single addresses, of which every second one is then freed.

@@ -626,9 +626,10 @@ fn expect_ranges(space: &mut AddressAllocator, held: &[RangeInclusive]) {
     expect_list(space.gaps(), &gaps, &mut draw);
     let longest = gaps.iter().map(RangeInclusive::len).max();
     assert_eq!(space.longest_gap(), longest.unwrap_or(0));
-    // A leaf has at least 12 blocks, and an AVL tree is at most 1.45 times as high as a full one.
-    let leaves = 1 + (held.len() + gaps.len()) / 12;
-    assert!(space.height() * 100 <= 145 * u64::from(leaves.ilog2() + 2));
+    // A leaf has 12 to 32 blocks, and a node 5 to 16 children. The root can have fewer.
+    let (height, blocks) = (space.height() as u32, (held.len() + gaps.len()) as u64);
+    assert!(height == 1 || 24 * 5_u64.pow(height - 2) <= blocks);
+    assert!(blocks <= 32 * 16_u64.pow(height - 1));
     #[cfg(feature = "serde")]
     {
         let bytes = packed::to_bytes(space).unwrap();

@@ -31,17 +31,25 @@ const ABORTED: i32 = 6;
 /// The allocations of the first entry of a list: a leaf, and memory for its entries.
 const FIRST: u64 = 2;
 
+/// The allocations of a split of a full leaf that is the whole tree: a leaf, a list of nodes, and a root.
+const SPLIT: u64 = 3;
+
+/// The allocations of a move of one of the 16 ranges to a part of the gap that it leaves: a leaf, a list, and a node for
+/// each of the two levels that a tree of 16 ranges can have.
+const MOVE: u64 = 4;
+
 type Tried = Result<(), TryError>;
 type TriedCall = fn(&mut AddressAllocator) -> Tried;
 type EndedCall = fn(&mut AddressAllocator);
 
-// src/lib.rs: "Allocating or moving a range allocates a leaf and an inner node if its leaf would
-// have more than 32, and otherwise nothing. A move to a part of the gap that it leaves always
-// allocates both. `allocate_all` also allocates three lists. A copy allocates all leaves and nodes,
-// `with_held` also a list, and `with_free` two."
+// src/lib.rs: "Allocating or moving a range allocates nothing if its leaf has room. Otherwise it
+// allocates a leaf, a node for each full node right above the leaf, one for a new root if all are full,
+// and a list of these nodes. A move to a part of the gap that it leaves always allocates a leaf, and a
+// list of nodes for the highest tree of these ranges. `allocate_all` also allocates three lists. A copy
+// allocates all leaves and nodes, `with_held` also a list, and `with_free` two."
 
 /// Calls that return an error, each with the number of its allocations on [`full_leaf`]: one for each
-/// leaf and inner node of a new tree or of a copy, and two for a split of the full leaf. A call with
+/// leaf and inner node of a new tree or of a copy, and three for a split of the full leaf. A call with
 /// ranges copies the list, and one with requests makes three lists. Holes between free ranges are a list
 /// too.
 const TRIED: [(u64, TriedCall); 43] = [
@@ -55,7 +63,7 @@ const TRIED: [(u64, TriedCall); 43] = [
     (1 + 1, |_| {
         of_list(AddressAllocator::try_with_held(16, 48, &both()))
     }),
-    (1 + (3 + 2) + (3 + 2), |_| {
+    (1 + (3 + 1) + (3 + 1), |_| {
         let space = AddressAllocator::try_with_held(0, 160, &in_three_leaves())?;
         space.try_clone().map(drop)
     }),
@@ -70,16 +78,20 @@ const TRIED: [(u64, TriedCall); 43] = [
         refused(AddressAllocator::try_with_free(&[both()[1], both()[0]]))
     }),
     (0, |_| refused(AddressAllocator::try_with_free(&[]))),
-    (3 + 2, |space| {
+    (3 + SPLIT, |space| {
         of_list(space.try_allocate_all(&three_requests()))
     }),
     (0, |space| of_list(space.try_allocate_all(&[]))),
-    (3 + 2, |space| {
+    (3 + SPLIT, |space| {
         refused(space.try_allocate_all(&[request(4, FirstMatch), request(64, FirstMatch)]))
     }),
-    (2, |space| space.try_allocate(4, 1, FirstMatch).map(drop)),
-    (2, |space| space.try_allocate(4, 1, LastMatch).map(drop)),
-    (2, |space| space.try_allocate(4, 1, ExactMatch(4)).map(drop)),
+    (SPLIT, |space| {
+        space.try_allocate(4, 1, FirstMatch).map(drop)
+    }),
+    (SPLIT, |space| space.try_allocate(4, 1, LastMatch).map(drop)),
+    (SPLIT, |space| {
+        space.try_allocate(4, 1, ExactMatch(4)).map(drop)
+    }),
     (0, |space| {
         space.try_allocate(16, 1, ExactMatch(24)).map(drop)
     }),
@@ -93,19 +105,19 @@ const TRIED: [(u64, TriedCall); 43] = [
         Ok(())
     }),
     // A range in the middle of a gap splits a leaf with 31 ranges and gaps.
-    (1 + 1 + 2, |_| {
+    (1 + 1 + SPLIT, |_| {
         let mut space = AddressAllocator::try_with_held(0, 90, &in_a_leaf()[..15])?;
         space.try_allocate(4, 1, ExactMatch(4)).map(drop)
     }),
-    (2, |space| {
+    (SPLIT, |space| {
         let request = in_the_middle(4, FirstMatch);
         space.try_allocate_constraint(request).map(drop)
     }),
-    (2, |space| {
+    (SPLIT, |space| {
         let request = in_the_middle(4, LastMatch);
         space.try_allocate_constraint(request).map(drop)
     }),
-    (2, |space| {
+    (SPLIT, |space| {
         let request = in_the_middle(4, ExactMatch(28));
         space.try_allocate_constraint(request).map(drop)
     }),
@@ -116,15 +128,15 @@ const TRIED: [(u64, TriedCall); 43] = [
         let named = space.layout().try_named([(both()[0], "disk")]);
         named.map(drop)
     }),
-    (2, |space| space.try_move_range(&both()[0], 4).map(drop)),
+    (MOVE, |space| space.try_move_range(&both()[0], 4).map(drop)),
     (0, |space| {
         refused(space.try_move_range(&both()[0], both()[1].start()))
     }),
-    (2, |space| {
+    (MOVE, |space| {
         let request = in_the_middle(4, LastMatch);
         space.try_move_constraint(&both()[0], request).map(drop)
     }),
-    (2, |space| {
+    (MOVE, |space| {
         let beside = request(16, ExactMatch(24));
         space.try_move_constraint(&both()[1], beside).map(drop)
     }),
@@ -136,7 +148,7 @@ const TRIED: [(u64, TriedCall); 43] = [
         let request = in_the_middle(16, FirstMatch);
         refused(space.try_move_constraint(&both()[0], request))
     }),
-    (3 + 2, |space| {
+    (3 + SPLIT, |space| {
         let requests = [in_the_middle(4, LastMatch), request(4, FirstMatch)];
         of_list(space.try_allocate_all(&requests))
     }),
@@ -183,24 +195,28 @@ const ENDED: [(u64, EndedCall); 25] = [
     (1 + 1 + 1, |_| {
         assert!(AddressAllocator::with_free(&three_gaps()).is_ok())
     }),
-    (3 + 2, |space| {
+    (3 + SPLIT, |space| {
         assert!(space.allocate_all(&three_requests()).is_ok())
     }),
-    (2, |space| assert!(space.allocate(4, 1, FirstMatch).is_ok())),
-    (2, |space| {
+    (SPLIT, |space| {
+        assert!(space.allocate(4, 1, FirstMatch).is_ok())
+    }),
+    (SPLIT, |space| {
         assert!(space.allocate_counted(4, 1, ExactMatch(4)).0.is_ok())
     }),
-    (2, |space| {
+    (SPLIT, |space| {
         let request = in_the_middle(4, FirstMatch);
         assert!(space.allocate_constraint(request).is_ok())
     }),
-    (2, |space| {
+    (SPLIT, |space| {
         let request = in_the_middle(4, LastMatch);
         assert!(space.allocate_constraint_counted(request).0.is_ok())
     }),
     (1, |space| drop(space.layout().named([(both()[0], "disk")]))),
-    (2, |space| assert!(space.move_range(&both()[0], 4).is_ok())),
-    (2, |space| {
+    (MOVE, |space| {
+        assert!(space.move_range(&both()[0], 4).is_ok())
+    }),
+    (MOVE, |space| {
         let request = in_the_middle(4, FirstMatch);
         assert!(space.move_constraint(&both()[0], request).is_ok())
     }),
@@ -256,6 +272,7 @@ fn main() {
     }
     count_requests();
     refuse_each_request();
+    full_nodes_are_split();
     objects_stay_the_same();
     no_request_is_made();
     items_without_memory();
@@ -386,6 +403,28 @@ fn refuse_each_request() {
     }
 }
 
+/// Checks a split of one of 16^3 full leaves, under three full nodes. It allocates a leaf, a node beside each full one, a
+/// root, and the list of these nodes. If one of these allocations fails, the tree is the same.
+fn full_nodes_are_split() {
+    let held = (0..1 << 16).map(|number| RangeInclusive::new(4 * number, 4 * number));
+    let held: Vec<_> = held.map(|range| range.expect("a range")).collect();
+    let unchanged = AddressAllocator::with_held(0, 4 << 16, &held).expect("a space");
+    assert_eq!(unchanged.height(), 1 + 3);
+    for policy in [FirstMatch, LastMatch, ExactMatch(1 << 17 | 2)] {
+        let mut space = unchanged.clone();
+        let before = blocks();
+        for number in 1..=1 + 3 + 1 + 1 {
+            let (answer, _) = refusing(number, || space.try_allocate(1, 1, policy));
+            assert_eq!(answer, Err(TryError::OutOfMemory), "{number}");
+            assert_eq!((space.height(), blocks()), (4, before), "{number}");
+            assert!(space == unchanged, "{number}");
+        }
+        let (answer, made) = refusing(0, || space.try_allocate(1, 1, policy));
+        assert_eq!((answer.is_ok(), made), (true, 1 + 3 + 1 + 1));
+        assert_eq!((space.height(), blocks()), (5, before + 1 + 3 + 1));
+    }
+}
+
 /// Checks that ids and devices do not change if memory runs out.
 fn objects_stay_the_same() {
     let mut ids = one_held_id();
@@ -476,17 +515,20 @@ fn items_without_memory() {
         };
         assert_eq!(answer, Err(failure), "{number}");
     };
-    for (number, index) in (1..).zip([None, None, None, Some(1), Some(1)]) {
+    for (number, index) in (1..).zip([None, None, None, Some(1), Some(1), Some(1)]) {
         let space = RefCell::new(full_leaf());
         expect(number, index, &|| {
             space.borrow_mut().try_allocate_all(&three_requests())?;
             Ok(())
         });
     }
-    for number in 1..=6 {
+    // Three leaves and their root are built, of one list or of two.
+    for number in 1..=1 + 3 + 1 {
         expect(number, None, &|| {
             AddressAllocator::try_with_held(0, 160, &in_three_leaves()).map(drop)
         });
+    }
+    for number in 1..=2 + 3 + 1 {
         expect(number, None, &|| {
             AddressAllocator::try_with_free(&in_three_leaves()).map(drop)
         });
@@ -551,12 +593,12 @@ fn no_request_is_made() {
 
 /// The bytes of a leaf and of an inner node.
 const LEAF: usize = 280;
-const NODE: usize = 56;
+const NODE: usize = 528;
 
-/// Returns the bytes of the tree that is built of this number of blocks.
+/// Returns the bytes of the tree that is built of this number of blocks, which has three levels.
 fn built(blocks: usize) -> usize {
     let leaves = blocks.div_ceil(32);
-    leaves * LEAF + (leaves - 1) * NODE
+    leaves * LEAF + (leaves.div_ceil(16) + 1) * NODE
 }
 
 /// Checks the bytes of calls with lists, of copies and walks, and of a small manager.
@@ -586,8 +628,13 @@ fn lists_have_no_spare_bytes() {
     let (ranges, bytes) = peak_of(|| space.allocate_all(&requests));
     assert_eq!(ranges.map(|ranges| ranges.capacity()), Ok(COUNT));
     let items = 2 * size_of::<RangeInclusive>() + size_of::<Constraint>();
-    // The last leaf is split when it has 32 blocks and gets another one. It then has 13 of them.
-    assert_eq!(bytes, COUNT * items + (COUNT - 13) / 20 * (LEAF + NODE));
+    // The last leaf is split when it has 32 blocks and gets another one. It then has 13 of them. A full node that is split
+    // has 8 children then.
+    let leaves = (COUNT - 13) / 20;
+    assert_eq!(
+        bytes,
+        COUNT * items + leaves * LEAF + (leaves / 8 + 1) * NODE
+    );
     let mut ids = IdAllocator::new(0, 2000).expect("ids");
     let (_, bytes) = peak_of(|| ids.allocate_ids(COUNT));
     assert_eq!(bytes, COUNT * size_of::<u32>());
@@ -657,7 +704,9 @@ fn ranges_take_few_bytes() {
                 assert_eq!(space.free(range), Ok(()));
             }
             let (_, bytes) = peak_of(|| space.clone());
-            assert!(bytes <= 40 * COUNT / 10, "{bytes} bytes");
+            // A leaf has at least 12 blocks, so at least 6 ranges, and a node at least 5 children.
+            let most = (LEAF + NODE / 4) / 6;
+            assert!(bytes <= most * COUNT / 10, "{bytes} bytes");
         }
     }
 }

@@ -470,7 +470,7 @@ fn a_failed_allocation_changes_nothing() {
     }
 }
 
-/// A split of a leaf with 32 blocks allocates a leaf and a node.
+/// A split of a leaf with 32 blocks, which is the whole tree, allocates a leaf, a root and a list of nodes.
 #[test]
 fn a_failed_split_of_a_full_leaf_changes_nothing() {
     let even = || (0..16).map(|number| 2 * number);
@@ -481,7 +481,8 @@ fn a_failed_split_of_a_full_leaf_changes_nothing() {
     let split = format!("done,{ranges}range 4095 4095,range 4094 4094,{later}");
     let refused = format!("done,{ranges}error memory,range 4095 4095,{later}");
     let no_space = format!("error memory,{}", "error no-space,".repeat(21));
-    expect_results(&input, &[split, no_space, refused.clone(), refused]);
+    let each = [refused.clone(), refused.clone(), refused];
+    expect_results(&input, &[&[split, no_space][..], &each].concat());
 }
 
 /// Runs the program. Returns its exit status, its output and its standard error.

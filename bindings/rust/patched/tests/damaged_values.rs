@@ -422,16 +422,22 @@ fn written_spaces_are_valid_and_depend_on_the_state_alone() {
         }
         let text = serde_json::to_string(&space).unwrap();
         let value = to_proved_value(&serde_json::from_str(&text).unwrap());
-        // The list of the ranges, the leaves of at most 32 blocks, and the inner nodes. They have 16 bytes
-        // for a range, 280 for a leaf and 56 for an inner node.
+        // The list of the ranges, the leaves of at most 32 blocks, and nodes of at most 16 children. They have 16
+        // bytes for a range, 280 for a leaf and 528 for a node.
         let leaves = (space.held_count() + space.gap_count()).div_ceil(32);
-        let most = u64::from(space.held_count() > 0) + 2 * leaves - 1;
+        let nodes = match leaves {
+            1 => 0,
+            2..=16 => 1,
+            _ => leaves.div_ceil(16) + 1,
+        };
+        let most = u64::from(space.held_count() > 0) + leaves + nodes;
         let read = || proved::AddressAllocator::from_value(Global, &value).unwrap();
         let ((read, made), bytes) = peak_of(|| refusing(0, read));
         same(Some(&space), Some(&read), "a space");
         let (repaired, again) = refusing(0, || AddressAllocator::read(&value).unwrap());
         assert!(repaired == read && (made, again) == (most, most));
-        assert_eq!(bytes as u64, 16 * space.held_count() + 336 * leaves - 56);
+        let bytes_of = 16 * space.held_count() + 280 * leaves + 528 * nodes;
+        assert_eq!(bytes as u64, bytes_of);
         let held: Vec<_> = space.held_ranges().collect();
         let size = space.end() - space.base() + 1;
         let other = AddressAllocator::with_held(space.base(), size, &held).unwrap();

@@ -1,4 +1,4 @@
--- The number of nodes that a call enters in a balanced tree.
+-- The number of nodes that a call enters in a tree.
 use Rattle.std.specs.Prelude.{◌≡◌, ℕ, ◌+◌, ◌*◌, ◌≤◌, Result, IsOk, Err, length}
 use Rattle.vm_ranges.specs.Range.{Range}
 use Rattle.vm_ranges.specs.Request.{Request, MakesConstraint}
@@ -14,8 +14,7 @@ max_entered FirstMatch h k = 2 * k + 1
 max_entered LastMatch h k = 2 * k + 1
 max_entered (ExactMatch t) h k = h
 
--- The bounds on the nodes that a request enters in a tree of height h. A success enters at least 1, and at least h / 2, because
--- each path from the root to a leaf has at least h / 2 nodes.
+-- The bounds on the nodes that a request enters in a tree of height h. A success enters at least 1, and at least h / 2.
 pub record IsGrantCount (h : ℕ) (old : AddressState) (request : Request) (answer : Result Range Error) (count : ℕ) : Type 0 where
   pub most : count ≤ max_entered request.policy h (length old.held)
   pub success : IsOk answer → 1 ≤ count
@@ -26,8 +25,7 @@ pub record IsAllocationCount (h : ℕ) (old : AddressState) (request : Request) 
   pub granting : IsGrantCount h old request answer count
   pub invalid : (e : Error) → MakesConstraint request (Err e) → count ≡ 0
 
--- The nodes that `free` enters in a tree of height h are at most 3h: those of a path, and two more for each node on it. A success
--- enters at least 1.
+-- The nodes that `free` enters in a tree of height h are at most 3h: those of three paths. A success enters at least 1.
 pub record IsFreeCount (h : ℕ) (answer : Result (Unit {0}) Error) (count : ℕ) : Type 0 where
   pub most : count ≤ 3 * h
   pub success : IsOk answer → 1 ≤ count

@@ -20,7 +20,7 @@ fn many_held(rt: &(impl Abort + AllocGlobal)) -> AddressAllocator {
 }
 
 /// Makes the calls in turn on the allocator of [`many_held`], with at most 7 ranges more. It then has 80 to 94 blocks,
-/// in three to seven leaves of 12 to 32. An AVL tree of these has height 3 or 4.
+/// in three to seven leaves of 12 to 32, which are the children of one node.
 fn replay_balanced(
     rt: &(impl Abort + AllocGlobal),
     space: &mut AddressAllocator,
@@ -28,8 +28,7 @@ fn replay_balanced(
 ) {
     for row in rows {
         replay(rt, space, &[*row]);
-        let height = space.height();
-        expect_true(rt, height == 3 || height == 4, height);
+        expect_eq(rt, space.height(), 2, "leaves below a root");
     }
 }
 

@@ -157,7 +157,7 @@ fn refused(rt: HostRuntime) {
     clone_once(&rt, &space);
 }
 
-/// A split of a leaf without room allocates a leaf and a node before the first change.
+/// A split of a leaf without room allocates a leaf, a root and a list of nodes before the first change.
 #[test]
 fn split_or_unchanged(rt: HostRuntime) {
     let mut space = full_leaf(&rt);

@@ -43,10 +43,10 @@ fn errors_keep_their_names_fields_and_texts() {
 /// Checks that counted calls return the count of the proved call.
 #[test]
 fn counts_are_those_of_the_proved_calls() {
-    let mut space = AddressAllocator::new(0, 0x1000).unwrap();
-    let mut proved = proved::AddressAllocator::new(Global, 0, 0x1000).unwrap();
-    for (number, size) in [1, 7, 16, 3].into_iter().cycle().take(400).enumerate() {
-        let at = 16 * (number as u64 * 37 % 256);
+    let mut space = AddressAllocator::new(0, 0x8000).unwrap();
+    let mut proved = proved::AddressAllocator::new(Global, 0, 0x8000).unwrap();
+    for (number, size) in [1, 7, 16, 3].into_iter().cycle().take(4000).enumerate() {
+        let at = 16 * (number as u64 * 37 % 2048);
         let policies = [AllocPolicy::FirstMatch, AllocPolicy::ExactMatch(at)];
         let request = Constraint::new(size, 16, policies[number % 2]).unwrap();
         let (answer, count) = match number % 3 {
@@ -65,5 +65,5 @@ fn counts_are_those_of_the_proved_calls() {
             );
         }
     }
-    assert!(space.height() > 5);
+    assert!(space.height() > 2);
 }

@@ -2,7 +2,7 @@
 
 //! Allocators of address ranges.
 //!
-//! - [`AddressAllocator`] allocates ranges of 64-bit addresses from one space. Its blocks are in a balanced
+//! - [`AddressAllocator`] allocates ranges of 64-bit addresses from one space. Its blocks are in a
 //!   tree.
 //! - [`Ranges`] iterates over the allocated ranges, or over the gaps between them. [`RangesIn`] iterates
 //!   over those in a window, and [`AllBlocks`] over both.

@@ -20,7 +20,7 @@ use crate::rattle::{AllocError, Global};
 use crate::rattle::{Box, Vec};
 use core::fmt::{Debug, Formatter};
 
-/// The blocks of a space in a balanced tree.
+/// The blocks of a space, in the leaves of a tree.
 pub(in crate::proved) struct Space {
     tree: Tree<Leaf>,
 }
