@@ -148,7 +148,7 @@
 //!
 //! - the private module `rattle`, which replaces Rattle's library;
 //! - the list of the values of a [`RangeMap`], whose indexes the proved map keeps with the ranges;
-//! - conversions, [`layout`](AddressAllocator::layout),
+//! - conversions, [`layout`](AddressAllocator::layout) with its picture,
 //!   [`contains_address`](RangeInclusive::contains_address),
 //!   [`intersection`](RangeInclusive::intersection) and texts;
 //! - the readers and writers of formats.
@@ -258,6 +258,7 @@ mod rattle;
 pub mod replay;
 #[cfg(feature = "serde")]
 mod saved;
+mod svg;
 #[cfg(test)]
 mod tests;
 mod traits;
