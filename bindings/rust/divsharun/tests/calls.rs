@@ -1504,7 +1504,15 @@ const SOURCES: [&str; 3] = [
     include_str!("../src/device_manager.rs"),
 ];
 
-/// Checks that each call of an object makes the proved call of its name, and no other work.
+const TESTS: [&str; 4] = [
+    include_str!("calls.rs"),
+    include_str!("costs.rs"),
+    include_str!("long.rs"),
+    include_str!("memory.rs"),
+];
+
+/// Checks that each call of an object makes the proved call of its name, and no other work, and that a
+/// test makes it.
 #[test]
 fn calls_are_those_of_the_proved_code() {
     let mut count = 0;
@@ -1548,6 +1556,9 @@ fn calls_are_those_of_the_proved_code() {
         ]
         .contains(&name);
         assert!(is_one || is_other, "{name}: {body}");
+        let uses = [format!(".{name}("), format!("::{name}")];
+        let is_used = |text: &&str| uses.iter().any(|call| text.contains(call));
+        assert!(TESTS.iter().any(is_used), "no test calls {name}");
         count += 1;
     }
     assert!(count > 50, "{count} calls");
