@@ -8,30 +8,114 @@
 /* More than a byte can count. */
 enum { MANY = 300 };
 
-/* The calls without an object, and the groups of calls on each kind of object. The calls with
- * limits are in the order of those without. */
+/* The calls without an object, and the groups of calls on each kind of object. Each has a name. The
+ * calls with limits are in the order of those without. */
 /* clang-format off */
-enum {
-    FROM_LENGTH, OFFSET_OF, NEW_SPACE, NEW_IDS, NEW_MANAGER, NEW_MAP, WITH_RANGES, WITH_FREE, WITH_IDS, READ_SPACE, REPAIR_SPACE,
-    READ_IDS, READ_MANAGER, SPACE_WITHIN, REPAIR_WITHIN, IDS_WITHIN, MANAGER_WITHIN,
-
-    FIRST, LAST, EXACT, MOVE, MOVE_REQUEST, REQUEST, LIST, FREE, DESTROY_SPACE,
-    SPACE, IS_ALLOCATED, COUNT, GAP_COUNT, FREE_LENGTH, LONGEST_GAP, RANGE_AT, GAP_AT, LIST_RANGES, LIST_GAPS, PEEK_RANGE, CONFLICT, EQUAL_SPACE, COPY_SPACE, SAVE_SPACE,
-    VISIT, VISIT_GAPS, VISIT_IN, GAPS_IN, VISIT_FROM, VISIT_BACK, GAPS_FROM, GAPS_BACK,
-
-    ID, ID_IN, IDS, ID_EXACT, FREE_ID, DESTROY_IDS,
-    PEEK, IS_ID_HELD, ID_COUNT, FREE_COUNT, ID_ENDS, EQUAL_IDS, COPY_IDS, SAVE_IDS, VISIT_IDS,
-
-    RESERVE_FIRST, RESERVE_LAST, RESERVE_EXACT, RESERVE, RESERVE_WITH_ID, MOVE_DEVICE, RELEASE, DESTROY_MANAGER,
-    DEVICE_SLOT, DEVICE_AT, DEVICE_COUNT, DEVICE_SPACE, DEVICE_IDS, DEVICE_CONFLICT, COPY_ADDRESSES, COPY_DEVICE_IDS, EQUAL_MANAGERS, COPY_MANAGER, SAVE_MANAGER,
-    VISIT_DEVICES,
-
-    MAP_ALLOCATE, MAP_MOVE, MAP_FREE, MAP_SET, DESTROY_MAP,
-    MAP_GET, LIST_MAP, MAP_COUNT, MAP_SPACE, EQUAL_MAPS, COPY_MAP,
-    VISIT_MAP,
-    CALLS
-};
+#define EVERY_CALL(CALL) \
+    CALL(FROM_LENGTH, dvs_range_from_start_length(n[0], n[1], to)) \
+    CALL(OFFSET_OF, dvs_range_offset_of(range, n[2], to_number)) \
+    CALL(NEW_SPACE, dvs_address_allocator_new(n[0], n[1], to_space)) \
+    CALL(NEW_IDS, dvs_id_allocator_new(first, last, to_ids, REFUSAL)) \
+    CALL(NEW_MANAGER, dvs_device_manager_new(first, last, n[2], n[3], to_manager, REFUSAL)) \
+    CALL(NEW_MAP, dvs_range_map_new(n[0], n[1], TO(results.map))) \
+    CALL(WITH_RANGES, dvs_address_allocator_with_held(n[0], n[1], given.held_ranges, 2, to_space, &failed, REFUSAL)) \
+    CALL(WITH_FREE, dvs_address_allocator_with_free(given.held_ranges, 2, to_space, &failed, REFUSAL)) \
+    CALL(WITH_IDS, dvs_id_allocator_with_held(first, last, given.held, 2, to_ids, REFUSAL)) \
+    CALL(READ_SPACE, dvs_address_allocator_read(text, length, to_space)) \
+    CALL(REPAIR_SPACE, dvs_address_allocator_read_repaired(text, length, to_space)) \
+    CALL(READ_IDS, dvs_id_allocator_read(text, length, to_ids)) \
+    CALL(READ_MANAGER, dvs_device_manager_read(text, length, to_manager)) \
+    CALL(SPACE_WITHIN, dvs_address_allocator_read_within(text, length, limits, to_space, FAULT)) \
+    CALL(REPAIR_WITHIN, dvs_address_allocator_read_repaired_within(text, length, limits, to_space, FAULT)) \
+    CALL(IDS_WITHIN, dvs_id_allocator_read_within(text, length, limits, to_ids, FAULT)) \
+    CALL(MANAGER_WITHIN, dvs_device_manager_read_within(text, length, limits, to_manager, FAULT)) \
+    \
+    CALL(FIRST, dvs_range_allocate_first(space, n[0], n[1], to, REFUSAL)) \
+    CALL(LAST, dvs_range_allocate_last(space, n[0], n[1], to, REFUSAL)) \
+    CALL(EXACT, dvs_range_allocate_exact(space, n[0], n[1], n[2], to, REFUSAL)) \
+    CALL(MOVE, dvs_range_move(space, range, n[2], to, REFUSAL)) \
+    CALL(MOVE_REQUEST, dvs_range_move_request(space, range, given.request, to, REFUSAL)) \
+    CALL(REQUEST, dvs_range_allocate(space, given.request, to, REFUSAL)) \
+    CALL(LIST, dvs_address_allocator_allocate_all(space, given.request, 2, to_all, &failed, REFUSAL)) \
+    CALL(FREE, dvs_range_free(space, range, REFUSAL)) \
+    CALL(DESTROY_SPACE, dvs_address_allocator_destroy(space)) \
+    CALL(SPACE, dvs_address_allocator_space(seen_space, to)) \
+    CALL(IS_ALLOCATED, dvs_range_is_allocated(seen_space, range, to_flag, REFUSAL)) \
+    CALL(COUNT, dvs_range_count(seen_space, to_number)) \
+    CALL(GAP_COUNT, dvs_gap_count(seen_space, to_number)) \
+    CALL(FREE_LENGTH, dvs_free_length(seen_space, to_number)) \
+    CALL(LONGEST_GAP, dvs_longest_gap(seen_space, to_number)) \
+    CALL(RANGE_AT, dvs_range_at(seen_space, n[0], to)) \
+    CALL(GAP_AT, dvs_gap_at(seen_space, n[0], to)) \
+    CALL(LIST_RANGES, dvs_range_list(seen_space, n[0], results.ranges, 1, TO(results.length))) \
+    CALL(LIST_GAPS, dvs_gap_list(seen_space, n[0], results.ranges, 1, TO(results.length))) \
+    CALL(PEEK_RANGE, dvs_range_peek(seen_space, given.request, to, REFUSAL)) \
+    CALL(CONFLICT, dvs_range_conflict(seen_space, given.request, to_conflict)) \
+    CALL(EQUAL_SPACE, dvs_address_allocator_equal(seen_space, other_space, to_flag)) \
+    CALL(COPY_SPACE, dvs_address_allocator_copy(seen_space, to_space)) \
+    CALL(SAVE_SPACE, dvs_address_allocator_save(seen_space, to_text, to_length)) \
+    CALL(VISIT, dvs_range_visit(seen_space, visitor, given.context)) \
+    CALL(VISIT_GAPS, dvs_gap_visit(seen_space, visitor, given.context)) \
+    CALL(VISIT_IN, dvs_range_visit_in(seen_space, range, visitor, given.context, REFUSAL)) \
+    CALL(GAPS_IN, dvs_gap_visit_in(seen_space, range, visitor, given.context, REFUSAL)) \
+    CALL(VISIT_FROM, dvs_range_visit_from(seen_space, n[0], visitor, given.context)) \
+    CALL(VISIT_BACK, dvs_range_visit_back(seen_space, n[1], visitor, given.context)) \
+    CALL(GAPS_FROM, dvs_gap_visit_from(seen_space, n[0], visitor, given.context)) \
+    CALL(GAPS_BACK, dvs_gap_visit_back(seen_space, n[1], visitor, given.context)) \
+    \
+    CALL(ID, dvs_id_allocate(ids, to_id)) \
+    CALL(ID_IN, dvs_id_allocate_in(ids, first, last, to_id, REFUSAL)) \
+    CALL(IDS, dvs_ids_allocate(ids, TO(*results.several), 2)) \
+    CALL(ID_EXACT, dvs_id_allocate_exact(ids, first, REFUSAL)) \
+    CALL(FREE_ID, dvs_id_free(ids, first, REFUSAL)) \
+    CALL(DESTROY_IDS, dvs_id_allocator_destroy(ids)) \
+    CALL(PEEK, dvs_id_peek(seen_ids, to_id)) \
+    CALL(IS_ID_HELD, dvs_id_is_allocated(seen_ids, first, to_flag)) \
+    CALL(ID_COUNT, dvs_id_count(seen_ids, to_number)) \
+    CALL(FREE_COUNT, dvs_id_free_count(seen_ids, to_number)) \
+    CALL(ID_ENDS, dvs_id_allocator_range(seen_ids, to_id, to_last)) \
+    CALL(EQUAL_IDS, dvs_id_allocator_equal(seen_ids, other_ids, to_flag)) \
+    CALL(COPY_IDS, dvs_id_allocator_copy(seen_ids, to_ids)) \
+    CALL(SAVE_IDS, dvs_id_allocator_save(seen_ids, to_text, to_length)) \
+    CALL(VISIT_IDS, dvs_id_visit(seen_ids, TO(*see_id), given.context)) \
+    \
+    CALL(RESERVE_FIRST, dvs_device_reserve_first(manager, n[0], n[1], to_device, REFUSAL)) \
+    CALL(RESERVE_LAST, dvs_device_reserve_last(manager, n[0], n[1], to_device, REFUSAL)) \
+    CALL(RESERVE_EXACT, dvs_device_reserve_exact(manager, n[0], n[1], n[2], to_device, REFUSAL)) \
+    CALL(RESERVE, dvs_device_reserve(manager, given.request, to_device, REFUSAL)) \
+    CALL(RESERVE_WITH_ID, dvs_device_reserve_with_id(manager, first, last, given.request, to_device, REFUSAL)) \
+    CALL(MOVE_DEVICE, dvs_device_move(manager, first, given.request, to, REFUSAL)) \
+    CALL(RELEASE, dvs_device_release(manager, first, REFUSAL)) \
+    CALL(DESTROY_MANAGER, dvs_device_manager_destroy(manager)) \
+    CALL(DEVICE_SLOT, dvs_device_slot(seen_manager, first, to, REFUSAL)) \
+    CALL(DEVICE_AT, dvs_device_at(seen_manager, n[0], to_device)) \
+    CALL(DEVICE_COUNT, dvs_device_count(seen_manager, to_number)) \
+    CALL(DEVICE_SPACE, dvs_device_manager_space(seen_manager, to)) \
+    CALL(DEVICE_IDS, dvs_device_manager_ids(seen_manager, to_id, to_last)) \
+    CALL(DEVICE_CONFLICT, dvs_device_conflict(seen_manager, given.request, to_conflict)) \
+    CALL(COPY_ADDRESSES, dvs_device_manager_copy_addresses(seen_manager, to_space)) \
+    CALL(COPY_DEVICE_IDS, dvs_device_manager_copy_ids(seen_manager, to_ids)) \
+    CALL(EQUAL_MANAGERS, dvs_device_manager_equal(seen_manager, other_manager, to_flag)) \
+    CALL(COPY_MANAGER, dvs_device_manager_copy(seen_manager, to_manager)) \
+    CALL(SAVE_MANAGER, dvs_device_manager_save(seen_manager, to_text, to_length)) \
+    CALL(VISIT_DEVICES, dvs_device_visit(seen_manager, TO(*see_device), given.context)) \
+    \
+    CALL(MAP_ALLOCATE, dvs_range_map_allocate(map, n[0], given.request, to, REFUSAL)) \
+    CALL(MAP_MOVE, dvs_range_map_move(map, range, given.request, to, REFUSAL)) \
+    CALL(MAP_FREE, dvs_range_map_free(map, range, to_number, REFUSAL)) \
+    CALL(MAP_SET, dvs_range_map_set(map, n[0], n[1], to_number)) \
+    CALL(DESTROY_MAP, dvs_range_map_destroy(map)) \
+    CALL(MAP_GET, dvs_range_map_get(seen_map, n[0], TO(results.found))) \
+    CALL(LIST_MAP, dvs_range_map_list(seen_map, n[0], &results.found, 1, TO(results.length))) \
+    CALL(MAP_COUNT, dvs_range_map_count(seen_map, to_number)) \
+    CALL(MAP_SPACE, dvs_range_map_space(seen_map, to)) \
+    CALL(EQUAL_MAPS, dvs_range_map_equal(seen_map, other_map, to_flag)) \
+    CALL(COPY_MAP, dvs_range_map_copy(seen_map, TO(results.map))) \
+    CALL(VISIT_MAP, dvs_range_map_visit(seen_map, TO(*see_valued), given.context))
 /* clang-format on */
+
+#define NAME(name, call) name,
+enum { EVERY_CALL(NAME) CALLS };
 
 /* In each group, where the changes, the changes without a result, the queries and the visits begin,
  * and where it ends. A group destroys its object by the last change, and compares, copies and saves
@@ -107,7 +191,7 @@ static bool has_refusal, has_fault;
 #define FAULT (has_fault = true, &fault)
 #define CASE(name, call)                                                                           \
     case name:                                                                                     \
-        return call
+        return call;
 
 /* The index of the request that failed, in the last list. */
 static size_t failed;
@@ -143,110 +227,7 @@ static dvs_status make_call(int call, void *object, const uint64_t *n) {
 
     has_refusal = has_fault = false;
     switch (call) {
-        CASE(FROM_LENGTH, dvs_range_from_start_length(n[0], n[1], to));
-        CASE(OFFSET_OF, dvs_range_offset_of(range, n[2], to_number));
-        CASE(NEW_SPACE, dvs_address_allocator_new(n[0], n[1], to_space));
-        CASE(NEW_IDS, dvs_id_allocator_new(first, last, to_ids, REFUSAL));
-        CASE(NEW_MANAGER, dvs_device_manager_new(first, last, n[2], n[3], to_manager, REFUSAL));
-        CASE(NEW_MAP, dvs_range_map_new(n[0], n[1], TO(results.map)));
-        CASE(WITH_RANGES, dvs_address_allocator_with_held(n[0], n[1], given.held_ranges, 2,
-                                                          to_space, &failed, REFUSAL));
-        CASE(WITH_FREE,
-             dvs_address_allocator_with_free(given.held_ranges, 2, to_space, &failed, REFUSAL));
-        CASE(WITH_IDS, dvs_id_allocator_with_held(first, last, given.held, 2, to_ids, REFUSAL));
-        CASE(READ_SPACE, dvs_address_allocator_read(text, length, to_space));
-        CASE(REPAIR_SPACE, dvs_address_allocator_read_repaired(text, length, to_space));
-        CASE(READ_IDS, dvs_id_allocator_read(text, length, to_ids));
-        CASE(READ_MANAGER, dvs_device_manager_read(text, length, to_manager));
-        CASE(SPACE_WITHIN,
-             dvs_address_allocator_read_within(text, length, limits, to_space, FAULT));
-        CASE(REPAIR_WITHIN,
-             dvs_address_allocator_read_repaired_within(text, length, limits, to_space, FAULT));
-        CASE(IDS_WITHIN, dvs_id_allocator_read_within(text, length, limits, to_ids, FAULT));
-        CASE(MANAGER_WITHIN,
-             dvs_device_manager_read_within(text, length, limits, to_manager, FAULT));
-        CASE(FIRST, dvs_range_allocate_first(space, n[0], n[1], to, REFUSAL));
-        CASE(LAST, dvs_range_allocate_last(space, n[0], n[1], to, REFUSAL));
-        CASE(EXACT, dvs_range_allocate_exact(space, n[0], n[1], n[2], to, REFUSAL));
-        CASE(MOVE, dvs_range_move(space, range, n[2], to, REFUSAL));
-        CASE(MOVE_REQUEST, dvs_range_move_request(space, range, given.request, to, REFUSAL));
-        CASE(REQUEST, dvs_range_allocate(space, given.request, to, REFUSAL));
-        CASE(LIST,
-             dvs_address_allocator_allocate_all(space, given.request, 2, to_all, &failed, REFUSAL));
-        CASE(FREE, dvs_range_free(space, range, REFUSAL));
-        CASE(DESTROY_SPACE, dvs_address_allocator_destroy(space));
-        CASE(SPACE, dvs_address_allocator_space(seen_space, to));
-        CASE(IS_ALLOCATED, dvs_range_is_allocated(seen_space, range, to_flag, REFUSAL));
-        CASE(COUNT, dvs_range_count(seen_space, to_number));
-        CASE(GAP_COUNT, dvs_gap_count(seen_space, to_number));
-        CASE(FREE_LENGTH, dvs_free_length(seen_space, to_number));
-        CASE(LONGEST_GAP, dvs_longest_gap(seen_space, to_number));
-        CASE(RANGE_AT, dvs_range_at(seen_space, n[0], to));
-        CASE(GAP_AT, dvs_gap_at(seen_space, n[0], to));
-        CASE(LIST_RANGES, dvs_range_list(seen_space, n[0], results.ranges, 1, TO(results.length)));
-        CASE(LIST_GAPS, dvs_gap_list(seen_space, n[0], results.ranges, 1, TO(results.length)));
-        CASE(PEEK_RANGE, dvs_range_peek(seen_space, given.request, to, REFUSAL));
-        CASE(CONFLICT, dvs_range_conflict(seen_space, given.request, to_conflict));
-        CASE(EQUAL_SPACE, dvs_address_allocator_equal(seen_space, other_space, to_flag));
-        CASE(COPY_SPACE, dvs_address_allocator_copy(seen_space, to_space));
-        CASE(SAVE_SPACE, dvs_address_allocator_save(seen_space, to_text, to_length));
-        CASE(VISIT, dvs_range_visit(seen_space, visitor, given.context));
-        CASE(VISIT_GAPS, dvs_gap_visit(seen_space, visitor, given.context));
-        CASE(VISIT_IN, dvs_range_visit_in(seen_space, range, visitor, given.context, REFUSAL));
-        CASE(GAPS_IN, dvs_gap_visit_in(seen_space, range, visitor, given.context, REFUSAL));
-        CASE(VISIT_FROM, dvs_range_visit_from(seen_space, n[0], visitor, given.context));
-        CASE(VISIT_BACK, dvs_range_visit_back(seen_space, n[1], visitor, given.context));
-        CASE(GAPS_FROM, dvs_gap_visit_from(seen_space, n[0], visitor, given.context));
-        CASE(GAPS_BACK, dvs_gap_visit_back(seen_space, n[1], visitor, given.context));
-        CASE(ID, dvs_id_allocate(ids, to_id));
-        CASE(ID_IN, dvs_id_allocate_in(ids, first, last, to_id, REFUSAL));
-        CASE(IDS, dvs_ids_allocate(ids, TO(*results.several), 2));
-        CASE(ID_EXACT, dvs_id_allocate_exact(ids, first, REFUSAL));
-        CASE(FREE_ID, dvs_id_free(ids, first, REFUSAL));
-        CASE(DESTROY_IDS, dvs_id_allocator_destroy(ids));
-        CASE(PEEK, dvs_id_peek(seen_ids, to_id));
-        CASE(IS_ID_HELD, dvs_id_is_allocated(seen_ids, first, to_flag));
-        CASE(ID_COUNT, dvs_id_count(seen_ids, to_number));
-        CASE(FREE_COUNT, dvs_id_free_count(seen_ids, to_number));
-        CASE(ID_ENDS, dvs_id_allocator_range(seen_ids, to_id, to_last));
-        CASE(EQUAL_IDS, dvs_id_allocator_equal(seen_ids, other_ids, to_flag));
-        CASE(COPY_IDS, dvs_id_allocator_copy(seen_ids, to_ids));
-        CASE(SAVE_IDS, dvs_id_allocator_save(seen_ids, to_text, to_length));
-        CASE(VISIT_IDS, dvs_id_visit(seen_ids, TO(*see_id), given.context));
-        CASE(RESERVE_FIRST, dvs_device_reserve_first(manager, n[0], n[1], to_device, REFUSAL));
-        CASE(RESERVE_LAST, dvs_device_reserve_last(manager, n[0], n[1], to_device, REFUSAL));
-        CASE(RESERVE_EXACT,
-             dvs_device_reserve_exact(manager, n[0], n[1], n[2], to_device, REFUSAL));
-        CASE(RESERVE, dvs_device_reserve(manager, given.request, to_device, REFUSAL));
-        CASE(RESERVE_WITH_ID,
-             dvs_device_reserve_with_id(manager, first, last, given.request, to_device, REFUSAL));
-        CASE(MOVE_DEVICE, dvs_device_move(manager, first, given.request, to, REFUSAL));
-        CASE(RELEASE, dvs_device_release(manager, first, REFUSAL));
-        CASE(DESTROY_MANAGER, dvs_device_manager_destroy(manager));
-        CASE(DEVICE_SLOT, dvs_device_slot(seen_manager, first, to, REFUSAL));
-        CASE(DEVICE_AT, dvs_device_at(seen_manager, n[0], to_device));
-        CASE(DEVICE_COUNT, dvs_device_count(seen_manager, to_number));
-        CASE(DEVICE_SPACE, dvs_device_manager_space(seen_manager, to));
-        CASE(DEVICE_IDS, dvs_device_manager_ids(seen_manager, to_id, to_last));
-        CASE(DEVICE_CONFLICT, dvs_device_conflict(seen_manager, given.request, to_conflict));
-        CASE(COPY_ADDRESSES, dvs_device_manager_copy_addresses(seen_manager, to_space));
-        CASE(COPY_DEVICE_IDS, dvs_device_manager_copy_ids(seen_manager, to_ids));
-        CASE(EQUAL_MANAGERS, dvs_device_manager_equal(seen_manager, other_manager, to_flag));
-        CASE(COPY_MANAGER, dvs_device_manager_copy(seen_manager, to_manager));
-        CASE(SAVE_MANAGER, dvs_device_manager_save(seen_manager, to_text, to_length));
-        CASE(VISIT_DEVICES, dvs_device_visit(seen_manager, TO(*see_device), given.context));
-        CASE(MAP_ALLOCATE, dvs_range_map_allocate(map, n[0], given.request, to, REFUSAL));
-        CASE(MAP_MOVE, dvs_range_map_move(map, range, given.request, to, REFUSAL));
-        CASE(MAP_FREE, dvs_range_map_free(map, range, to_number, REFUSAL));
-        CASE(MAP_SET, dvs_range_map_set(map, n[0], n[1], to_number));
-        CASE(DESTROY_MAP, dvs_range_map_destroy(map));
-        CASE(MAP_GET, dvs_range_map_get(seen_map, n[0], TO(results.found)));
-        CASE(LIST_MAP, dvs_range_map_list(seen_map, n[0], &results.found, 1, TO(results.length)));
-        CASE(MAP_COUNT, dvs_range_map_count(seen_map, to_number));
-        CASE(MAP_SPACE, dvs_range_map_space(seen_map, to));
-        CASE(EQUAL_MAPS, dvs_range_map_equal(seen_map, other_map, to_flag));
-        CASE(COPY_MAP, dvs_range_map_copy(seen_map, TO(results.map)));
-        CASE(VISIT_MAP, dvs_range_map_visit(seen_map, TO(*see_valued), given.context));
+        EVERY_CALL(CASE)
     default:
         CHECK(!"a call");
         return DVS_OK;

@@ -116,12 +116,19 @@ impl<'a> Layout<'a> {
     pub fn blocks(&self) -> Blocks<'_> {
         Blocks(self.allocator.0.blocks(), &self.names)
     }
+
+    /// Returns the minimum number of digits of an address.
+    pub(crate) fn digits(&self) -> usize {
+        match self.allocator.end() {
+            ..0x1_0000 => 4,
+            _ => 8,
+        }
+    }
 }
 
 impl fmt::Display for Layout<'_> {
     fn fmt(&self, f: &mut fmt::Formatter<'_>) -> fmt::Result {
-        // The minimum number of digits of an address.
-        let digits = if self.allocator.end() < 1 << 16 { 4 } else { 8 };
+        let digits = self.digits();
         for block in self.blocks() {
             let (start, end) = (block.range.start(), block.range.end());
             if start != self.allocator.base() {
@@ -157,13 +164,20 @@ pub struct Block<'a> {
     pub name: Option<&'a str>,
 }
 
-impl fmt::Display for Block<'_> {
-    fn fmt(&self, f: &mut fmt::Formatter<'_>) -> fmt::Result {
+impl<'a> Block<'a> {
+    /// Returns the name, or `held` or `gap` if there is none.
+    pub(crate) fn text(&self) -> &'a str {
         let by_state = match self.state {
             NodeState::Free => "gap",
             NodeState::Allocated => "held",
         };
-        f.pad(self.name.unwrap_or(by_state))
+        self.name.unwrap_or(by_state)
+    }
+}
+
+impl fmt::Display for Block<'_> {
+    fn fmt(&self, f: &mut fmt::Formatter<'_>) -> fmt::Result {
+        f.pad(self.text())
     }
 }
 

@@ -41,52 +41,28 @@
 //! Change one line of Cargo.toml, as the README shows. No line of Rust changes.
 //!
 //! Results differ where that crate has bugs. `docs/DIFFERENCES.md` in the repository lists each
-//! difference. These items are new:
+//! difference. `vm-allocator` has these items, and all others are new:
 //!
-//! - [`DeviceManager`] and [`IdRequest`], and [`RangeMap`];
-//! - of an [`IdAllocator`]: [`with_held`](IdAllocator::with_held),
-//!   [`allocate_exact`](IdAllocator::allocate_exact), [`allocate_in`](IdAllocator::allocate_in),
-//!   [`allocate_ids`](IdAllocator::allocate_ids), [`peek_id`](IdAllocator::peek_id),
-//!   [`held_count`](IdAllocator::held_count), [`free_count`](IdAllocator::free_count),
-//!   [`held_ids`](IdAllocator::held_ids), [`iter`](IdAllocator::iter), the ends of the range and
-//!   equality;
-//! - of an [`AddressAllocator`]: [`over`](AddressAllocator::over),
-//!   [`with_held`](AddressAllocator::with_held), [`with_free`](AddressAllocator::with_free),
-//!   [`allocate_all`](AddressAllocator::allocate_all),
-//!   [`allocate_constraint`](AddressAllocator::allocate_constraint),
-//!   [`peek`](AddressAllocator::peek), [`conflict`](AddressAllocator::conflict),
-//!   [`move_range`](AddressAllocator::move_range),
-//!   [`move_constraint`](AddressAllocator::move_constraint), [`space`](AddressAllocator::space),
-//!   [`held_ranges`](AddressAllocator::held_ranges), [`iter`](AddressAllocator::iter),
-//!   [`held_ranges_in`](AddressAllocator::held_ranges_in), [`holds`](AddressAllocator::holds),
-//!   [`held_at`](AddressAllocator::held_at), [`held_count`](AddressAllocator::held_count),
-//!   [`gaps`](AddressAllocator::gaps), [`gaps_in`](AddressAllocator::gaps_in),
-//!   [`gap_at`](AddressAllocator::gap_at), [`gap_count`](AddressAllocator::gap_count),
-//!   [`longest_gap`](AddressAllocator::longest_gap),
-//!   [`longest_gap_in`](AddressAllocator::longest_gap_in), [`free_len`](AddressAllocator::free_len),
-//!   [`height`](AddressAllocator::height), [`layout`](AddressAllocator::layout),
-//!   [`allocate_counted`](AddressAllocator::allocate_counted),
-//!   [`allocate_constraint_counted`](AddressAllocator::allocate_constraint_counted) and
-//!   [`free_counted`](AddressAllocator::free_counted);
-//! - of a [`Constraint`]: its [`policy`](Constraint::policy), its
-//!   [`window`](Constraint::window) by [`within`](Constraint::within) any [`Window`], its text and its
-//!   hash;
-//! - of a [`RangeInclusive`]: [`from_start_len`](RangeInclusive::from_start_len),
-//!   [`offset_of`](RangeInclusive::offset_of), its texts and their reader with [`ParseRangeError`],
-//!   conversions, [`contains_address`](RangeInclusive::contains_address) and
-//!   [`intersection`](RangeInclusive::intersection);
-//! - [`ListError`], which names the item of a list that failed;
-//! - with the feature `serde`, `Strict`, `try_saved` of address allocators and managers, and saved
-//!   requests;
-//! - the `try_` variants of all calls that allocate, except the counted ones.
+//! - of an [`AddressAllocator`]: [`new`](AddressAllocator::new),
+//!   [`allocate`](AddressAllocator::allocate), [`free`](AddressAllocator::free),
+//!   [`base`](AddressAllocator::base) and [`end`](AddressAllocator::end);
+//! - of an [`IdAllocator`]: [`new`](IdAllocator::new), [`allocate_id`](IdAllocator::allocate_id),
+//!   [`is_allocated`](IdAllocator::is_allocated) and [`free_id`](IdAllocator::free_id);
+//! - of a [`Constraint`]: [`new`](Constraint::new), [`align`](Constraint::align) and
+//!   [`size`](Constraint::size);
+//! - of a [`RangeInclusive`]: [`new`](RangeInclusive::new), [`len`](RangeInclusive::len),
+//!   [`overlaps`](RangeInclusive::overlaps), [`contains`](RangeInclusive::contains),
+//!   [`start`](RangeInclusive::start) and [`end`](RangeInclusive::end);
+//! - [`AllocPolicy`], [`DEFAULT_CONSTRAINT_ALIGN`], [`Error`] and [`Result`].
 //!
 //! # Out of memory
 //!
 //! If memory runs out, the process ends, as with Rust's collections: a program with `std` aborts, and
 //! one without it panics. To handle the error instead, use the `try_` variants, for example
 //! [`AddressAllocator::try_allocate`], [`IdAllocator::try_free_id`] and
-//! [`DeviceManager::try_reserve`]. They return a [`TryError`], and then the same ranges and ids are
-//! allocated as before. Both kinds can be called on the same object.
+//! [`DeviceManager::try_reserve`]. All calls that allocate have one, except the counted ones. They
+//! return a [`TryError`], and then the same ranges and ids are allocated as before. Both kinds can be
+//! called on the same object.
 //!
 //! With serde, it is an error of the format if memory runs out. A view that `try_saved` returns
 //! is saved without allocating memory. The memory of a format is its own: serde_json ends the process
@@ -149,7 +125,7 @@
 //!
 //! - the private module `rattle`, which replaces Rattle's library;
 //! - the list of the values of a [`RangeMap`], whose indexes the proved map keeps with the ranges;
-//! - conversions, [`layout`](AddressAllocator::layout),
+//! - conversions, [`layout`](AddressAllocator::layout) with its picture,
 //!   [`contains_address`](RangeInclusive::contains_address),
 //!   [`intersection`](RangeInclusive::intersection) and texts;
 //! - the readers and writers of formats.
@@ -259,6 +235,7 @@ mod rattle;
 pub mod replay;
 #[cfg(feature = "serde")]
 mod saved;
+mod svg;
 #[cfg(test)]
 mod tests;
 mod traits;

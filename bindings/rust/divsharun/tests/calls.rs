@@ -919,6 +919,77 @@ fn a_layout_is_written_as_the_kernel_does() {
     }
 }
 
+/// The row of a picture: its class, its height, and the texts of its columns.
+type Row = (&'static str, u64, [&'static str; 3]);
+
+// src/svg.rs: "The row of the shortest block is 14 units high, and others are one unit higher for each
+// doubling of the length. Lengths are rounded down: for the height to a power of two, and as text to a
+// hundredth of the largest unit. Names are escaped, and U+FFFD replaces each character that XML cannot
+// have."
+
+/// Lengths of 2^12, 255 * 2^12, 3 * 2^19 and 8 * 2^20 - 1.
+const ROWS: [Row; 4] = [
+    (
+        "held",
+        14,
+        [
+            "d0000000",
+            "4 KiB",
+            "a&lt;b&gt; &amp;amp; \u{fffd}\u{fffd}ü\"",
+        ],
+    ),
+    ("gap", 14 + 7, ["d0001000", "1020 KiB", "gap"]),
+    ("held", 14 + 8, ["d0100000", "1.50 MiB", "held"]),
+    ("gap", 14 + 10, ["d0280000", "7.99 MiB", "gap"]),
+];
+
+/// The longest block is 2^64 - 2 addresses long.
+const LONGEST: [Row; 2] = [
+    ("held", 14, ["00000000", "1 B", ""]),
+    ("gap", 14 + 63, ["00000001", "15.99 EiB", "gap"]),
+];
+
+/// Returns the number of an attribute that a text has first.
+fn attribute(text: &str, name: &str) -> u64 {
+    let value = text.split_once(&format!(" {name}=\"")).unwrap().1;
+    value.split_once('"').unwrap().0.parse().unwrap()
+}
+
+/// Checks the rows of a picture, and that each begins where the one before ends.
+fn expect_picture(picture: &str, rows: &[Row]) {
+    let (head, body) = picture.split_once("<rect ").unwrap();
+    let mut top = 0;
+    let mut found = body.split("<rect ");
+    for (class, height, columns) in rows {
+        let row = found.next().unwrap();
+        assert!(row.starts_with(&format!("class=\"{class}\"")), "{row}");
+        assert_eq!(
+            (attribute(row, "y"), attribute(row, "height")),
+            (top, *height)
+        );
+        top += height;
+        let texts = row.split("</text>").take(3);
+        let texts: Vec<_> = texts.map(|text| text.rsplit_once('>').unwrap().1).collect();
+        assert_eq!(texts, columns);
+    }
+    assert!(found.next().is_none());
+    assert_eq!(attribute(head, "height"), top);
+    assert!(head.contains(&format!("viewBox=\"0 0 640 {top}\"")) && picture.ends_with("</svg>\n"));
+}
+
+#[test]
+fn a_picture_has_a_row_for_each_block() {
+    let mut space = AddressAllocator::new(0xd000_0000, 0x28_0000 + 0x7f_ffff).unwrap();
+    let exact = AllocPolicy::ExactMatch;
+    let named = space.allocate(0x1000, 1, exact(0xd000_0000)).unwrap();
+    space.allocate(0x18_0000, 1, exact(0xd010_0000)).unwrap();
+    let layout = space.layout().named([(named, "a<b> &amp; \n\u{ffff}ü\"")]);
+    expect_picture(&layout.svg(), &ROWS);
+    let mut space = AddressAllocator::new(0, u64::MAX).unwrap();
+    let named = space.allocate(1, 1, exact(0)).unwrap();
+    expect_picture(&space.layout().named([(named, "")]).svg(), &LONGEST);
+}
+
 /// Checks a layout with many ranges and many names for each, in lists of any order.
 #[test]
 fn the_last_of_many_names_is_shown() {
@@ -1433,7 +1504,15 @@ const SOURCES: [&str; 3] = [
     include_str!("../src/device_manager.rs"),
 ];
 
-/// Checks that each call of an object makes the proved call of its name, and no other work.
+const TESTS: [&str; 4] = [
+    include_str!("calls.rs"),
+    include_str!("costs.rs"),
+    include_str!("long.rs"),
+    include_str!("memory.rs"),
+];
+
+/// Checks that each call of an object makes the proved call of its name, and no other work, and that a
+/// test makes it.
 #[test]
 fn calls_are_those_of_the_proved_code() {
     let mut count = 0;
@@ -1477,6 +1556,9 @@ fn calls_are_those_of_the_proved_code() {
         ]
         .contains(&name);
         assert!(is_one || is_other, "{name}: {body}");
+        let uses = [format!(".{name}("), format!("::{name}")];
+        let is_used = |text: &&str| uses.iter().any(|call| text.contains(call));
+        assert!(TESTS.iter().any(is_used), "no test calls {name}");
         count += 1;
     }
     assert!(count > 50, "{count} calls");

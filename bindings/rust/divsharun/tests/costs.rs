@@ -144,7 +144,8 @@ const OF_WALKS: [Calls<[AddressAllocator; 2]>; 10] = [
     |[one, _], _| {
         let names = one.held_ranges().map(|range| (range, "bar"));
         let layout = one.layout().try_named(names).unwrap();
-        layout.to_string().len() > format!("{one:?}").len() / 4
+        let text = layout.to_string();
+        text.len() > format!("{one:?}").len() / 4 && layout.svg().len() > text.len()
     },
     |[one, _], _| {
         let requests = vec![Constraint::new(1, 1, FirstMatch).unwrap(); one.gap_count() as usize];

@@ -276,6 +276,7 @@ fn main() {
     objects_stay_the_same();
     no_request_is_made();
     items_without_memory();
+    pictures_without_memory();
     lists_have_no_spare_bytes();
     short_lists_take_few_bytes();
     leaves_are_joined();
@@ -500,6 +501,18 @@ fn unchanged_until_allowed<O: PartialEq + Debug, T: Debug>(
         assert_eq!(answer.err(), Some(TryError::OutOfMemory));
         assert_eq!(*object, unchanged);
     }
+}
+
+/// Makes each allocation of a picture fail.
+fn pictures_without_memory() {
+    let space = two_held();
+    let (picture, made) = refusing(0, || space.layout().svg());
+    assert!(made > 0);
+    for number in 1..=made {
+        let (answer, _) = refusing(number, || space.layout().try_svg());
+        assert_eq!(answer, Err(TryError::OutOfMemory));
+    }
+    assert_eq!(space.layout().try_svg(), Ok(picture));
 }
 
 /// Checks that only an allocation for a request has an index.
