@@ -85,9 +85,9 @@ fn insert_in<E: Keyed>(entries: &mut Vec<E>, entry: E) -> Result<(), AllocFailed
 /// of them, but few or almost all if keys come in order.
 fn upper_for<E: Keyed>(entries: &[E], key: u64) -> usize
     requires order { IsDescendingBy E.key_of entries.now }
-    requires full { 64 ≤ length entries.now }
-    ensures upper { 16 ≤ result }
-    ensures lower { result + 16 ≤ length entries.now }
+    requires full { MAX_ENTRIES ≤ length entries.now }
+    ensures upper { MIN_ENTRIES ≤ result }
+    ensures lower { result + MIN_ENTRIES ≤ length entries.now }
 {
     let at = place(entries, key);
     if at == 0 {
@@ -151,10 +151,10 @@ fn insert_part<E: Keyed>(
 fn divide<E: Keyed>(entries: &mut Vec<E>, entry: E) -> Result<Vec<E>, AllocFailed<E>>
     requires order { IsDescendingBy E.key_of entries.old.items }
     requires new { entry_at E.key_of (E.key_of entry) entries.old.items ≡ None }
-    requires full { 64 ≤ length entries.old.items }
+    requires full { MAX_ENTRIES ≤ length entries.old.items }
     ensures put { IfOk result (λ lower. entries.new.items ++ lower.items ≡ with_entry E.key_of entry entries.old.items) }
-    ensures upper { OnOk result (16 ≤ length entries.new.items) }
-    ensures lower { IfOk result (λ lower. 16 ≤ length lower.items) }
+    ensures upper { OnOk result (MIN_ENTRIES ≤ length entries.new.items) }
+    ensures lower { IfOk result (λ lower. MIN_ENTRIES ≤ length lower.items) }
     ensures order { IsDescendingBy E.key_of entries.new.items }
     ensures order_lower { IfOk result (λ lower. IsDescendingBy E.key_of lower.items) }
     ensures unchanged { OnErr result (entries.new.items ≡ entries.old.items) }
@@ -279,10 +279,10 @@ impl<E: Keyed> Chunk<E> {
     /// the entry.
     pub(crate) fn split(&mut self, alloc: Global, entry: E) -> Result<Box<Chunk<E>>, AllocFailed<E>>
         requires new { entry_at E.key_of (E.key_of entry) self.old ≡ None }
-        requires full { 64 ≤ length self.old }
+        requires full { MAX_ENTRIES ≤ length self.old }
         ensures put { IfOk result (λ upper. upper.value ++ self.new ≡ with_entry E.key_of entry self.old) }
-        ensures upper { IfOk result (λ upper. 16 ≤ length upper.value) }
-        ensures lower { OnOk result (16 ≤ length self.new) }
+        ensures upper { IfOk result (λ upper. MIN_ENTRIES ≤ length upper.value) }
+        ensures lower { OnOk result (MIN_ENTRIES ≤ length self.new) }
         ensures unchanged { OnErr result (self.new ≡ self.old) }
         ensures returned { IfErr result (λ e. e.value ≡ entry) }
     {
