@@ -1,6 +1,6 @@
 -- The gaps of a state, and the results of queries of addresses.
-use Rattle.std.specs.Prelude.{ℕ, ◌+◌, ◌-◌, max, nat_lt, if◌then◌else◌, List, [], ◌∷◌, ◌++◌, Option, Some, None}
-use Rattle.std.specs.List.{Contains, filter}
+use Rattle.std.specs.Prelude.{◌≡◌, ℕ, ◌+◌, ◌-◌, ◌<◌, ◌≤◌, max, nat_lt, if◌then◌else◌, List, [], ◌∷◌, ◌++◌, Option, Some, None}
+use Rattle.std.specs.List.{All, Contains, filter}
 use Rattle.vm_ranges.specs.Range.{Range, IsIn, IsInNone, address_count}
 use Rattle.vm_ranges.specs.Address.{AddressState}
 use Rattle.vm_ranges.specs.Windows.{common}
@@ -61,10 +61,21 @@ count_if (Some r) = address_count r
 abbrev pub longer_part : Range → Option Range → Range → Option Range
 longer_part window longest g = if nat_lt (count_if longest) (common_count window g) then Some (common window g) else longest
 
--- The lowest of the longest parts of the gaps in the window, if it is longer than the range, otherwise the range.
-abbrev pub longest_of_parts : Range → Option Range → List Range → Option Range
-longest_of_parts window longest [] = longest
-longest_of_parts window longest (g ∷ gs) = longest_of_parts window (longer_part window longest g) gs
+-- The range is the part in the window of one of these ranges. None of them has a longer part in it, and none before it as long a one.
+pub record IsLongestPart (window : Range) (ranges : List Range) (part : Range) : Type 0 where
+  pub lower : List Range
+  pub whole : Range
+  pub upper : List Range
+  pub cut : ranges ≡ lower ++ whole ∷ upper
+  pub is : part ≡ common window whole
+  pub some : 0 < common_count window whole
+  pub before : All (λ r. common_count window r < common_count window whole) lower
+  pub after : All (λ r. common_count window r ≤ common_count window whole) upper
+
+-- The answer is the longest part of a range in the window, the lowest of several, or None if no range has an address in it.
+abbrev pub FindsLongestPart : Range → List Range → Option Range → Type 0
+FindsLongestPart window ranges None = All (λ r. common_count window r ≡ 0) ranges
+FindsLongestPart window ranges (Some part) = IsLongestPart window ranges part
 
 -- The number of addresses of all ranges together.
 abbrev pub count_of : List Range → ℕ

@@ -7,7 +7,7 @@ ghost use Rattle.vm_addresses.specs.Queries.{
   gaps_of,
   longest_of,
   longest_part,
-  longest_of_parts,
+  FindsLongestPart,
   longer_part,
   count_if,
   count_of,
@@ -84,9 +84,9 @@ impl AddressAllocator {
     ///
     /// A request at alignment 1 in this window fits if and only if its size is at most the length of this part.
     /// It reads each gap of the window and does not allocate.
-    #[tactic(auto, using(crate::proofs::Walking::LongestParts::longest_length))]
+    #[tactic(auto, using(crate::proofs::Walking::LongestParts::longest_parts))]
     pub fn longest_gap_in(&self, window: &RangeInclusive) -> Option<RangeInclusive>
-        ensures part { result ≡ longest_of_parts window.now None (meeting window.now (gaps_of (state_of self.now))) }
+        ensures part { FindsLongestPart window.now (gaps_of (state_of self.now)) result }
         ensures length { count_if result ≡ longest_part window.now (gaps_of (state_of self.now)) }
     {
         let mut gaps = self.gaps_in(window);
