@@ -77,8 +77,8 @@
 //! search for a range visit more gaps. A walk within a range takes time of the order of log k, plus the
 //! number of ranges and gaps in it. Calls on one id, device or range of a map take logarithmic time, also
 //! if they skip ids. If a call makes the list of freed ids, of devices or of values longer, it can also move
-//! the list, in linear time. Counts, ends, `height` and `longest_gap` take constant time. `last` of an
-//! iterator takes logarithmic time, and `count` of an iterator with an exact length constant time. Other
+//! the list, in linear time. Counts, ends and `longest_gap` take constant time. `height` and `last` of
+//! an iterator take logarithmic time, and `count` of an iterator with an exact length constant time. Other
 //! calls of allocators, managers and maps take at most linear time.
 //!
 //! The allocated ranges and gaps are in leaves of 280 bytes, with 12 to 32 of them in each leaf. A tree that
