@@ -75,7 +75,7 @@
 //!   [`offset_of`](RangeInclusive::offset_of), its texts and their reader with [`ParseRangeError`],
 //!   conversions, [`contains_address`](RangeInclusive::contains_address) and
 //!   [`intersection`](RangeInclusive::intersection);
-//! - [`ListError`], which names the item of a list that failed;
+//! - [`ListError`], which names the item of a list that failed, and [`ValueError`], which returns a value;
 //! - with the feature `serde`, `Strict`, `try_saved` of address allocators and managers, and saved
 //!   requests;
 //! - the `try_` variants of all calls that allocate, except the counted ones.
@@ -147,7 +147,6 @@
 //! repository lists what is trusted. These parts are written by hand and tested:
 //!
 //! - the private module `rattle`, which replaces Rattle's library;
-//! - the list of the values of a [`RangeMap`], whose indexes the proved map keeps with the ranges;
 //! - conversions, [`layout`](AddressAllocator::layout),
 //!   [`contains_address`](RangeInclusive::contains_address),
 //!   [`intersection`](RangeInclusive::intersection) and texts;
@@ -266,7 +265,7 @@ pub use address_allocator::{AddressAllocator, Gaps, GapsIn, HeldRanges, HeldRang
 pub use conflict::Conflict;
 pub use constraint::{Constraint, Window};
 pub use device_manager::{DeviceManager, DeviceSlot, Devices};
-pub use error::{Error, ListError, Result, TryError};
+pub use error::{Error, ListError, Result, TryError, ValueError};
 pub use id_allocator::{HeldIds, IdAllocator};
 pub use layout::{Block, Blocks, Layout};
 pub use proved::vm_ids::IdRequest;

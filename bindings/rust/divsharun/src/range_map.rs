@@ -1,8 +1,7 @@
 // SPDX-License-Identifier: Apache-2.0 OR BSD-3-Clause
-use crate::error::TryResult;
-use crate::proved::vm_addresses::{self, RangeInclusive as Range};
+use crate::error::{TryResult, TryValueResult, ValueResult};
 use crate::proved::vm_range_map as proved;
-use crate::rattle::{Global, Vec};
+use crate::rattle::Global;
 use crate::traits::{allocator, iterate, twins, DebugList};
 use crate::{AllocPolicy, Constraint, RangeInclusive, Result};
 use core::fmt;
@@ -32,18 +31,7 @@ use core::fmt;
 /// assert_eq!(bus.free(&disk), Err(Error::ResourceNotAvailable));
 /// # Ok::<(), Error>(())
 /// ```
-///
-/// # What is proved
-///
-/// The ranges, the errors and the number that is kept with each range are proved. This number is the index
-/// of its value in a list. The list is written by hand and tested: it keeps the values and the starts of
-/// their ranges, and its last value takes the index of one that is removed.
-pub struct RangeMap<T> {
-    // The value with each range is an index of `values`.
-    ranges: proved::RangeMap,
-    // Each value, after the start of its range.
-    values: Vec<(u64, T)>,
-}
+pub struct RangeMap<T>(proved::RangeMap<T>);
 
 impl<T> RangeMap<T> {
     twins! {
@@ -66,8 +54,7 @@ impl<T> RangeMap<T> {
         /// # Ok::<(), Error>(())
         /// ```
         pub fn new(base: u64, size: u64) -> Result<Self> {
-            let (ranges, values) = (proved::RangeMap::new(Global, base, size)?, Vec::new(Global));
-            Ok(RangeMap { ranges, values })
+            Ok(RangeMap(proved::RangeMap::new(Global, base, size)?))
         }
 
         /// # Example
@@ -89,7 +76,7 @@ impl<T> RangeMap<T> {
         ///
         /// # Errors
         ///
-        /// An error drops `value` and changes nothing else.
+        /// An error returns `value` and changes nothing.
         /// - `InvalidSize`, `InvalidAlignment`, `UnalignedAddress`, `Overflow`, `ResourceNotAvailable` or
         ///   `InvalidStateTransition`, as for
         ///   [`AddressAllocator::allocate`](crate::AddressAllocator::allocate).
@@ -104,7 +91,8 @@ impl<T> RangeMap<T> {
         /// assert_eq!(frames.start(), 0xc000_0000);
         ///
         /// let exact = AllocPolicy::ExactMatch(frames.start());
-        /// assert_eq!(bus.allocate(0x1000, 0x1000, exact, "net"), Err(Error::ResourceNotAvailable));
+        /// let refused = bus.allocate(0x1000, 0x1000, exact, "net").unwrap_err();
+        /// assert_eq!((refused.error, refused.value), (Error::ResourceNotAvailable, "net"));
         /// assert_eq!(bus.get(frames.start()), Some((frames, &"frames")));
         /// # Ok::<(), Error>(())
         /// ```
@@ -115,20 +103,18 @@ impl<T> RangeMap<T> {
             alignment: u64,
             policy: AllocPolicy,
             value: T,
-        ) -> Result<RangeInclusive> {
-            let index = self.values.len() as u64;
-            let range = self.ranges.allocate(Global, size, alignment, policy, index)?;
-            Ok(RangeInclusive(self.keep(range, value)?))
+        ) -> ValueResult<T> {
+            Ok(RangeInclusive(self.0.allocate(Global, size, alignment, policy, value)?))
         }
 
-        pub fn try_allocate -> TryResult;
+        pub fn try_allocate -> TryValueResult;
 
         /// Allocates a range like [`allocate`](Self::allocate), for a request that was made before. If the
         /// request has a [window](Constraint::within), the range lies in it.
         ///
         /// # Errors
         ///
-        /// An error drops `value` and changes nothing else.
+        /// An error returns `value` and changes nothing.
         /// - `Overflow`, `ResourceNotAvailable` or `InvalidStateTransition`, as for
         ///   [`AddressAllocator::allocate_constraint`](crate::AddressAllocator::allocate_constraint).
         ///
@@ -143,22 +129,11 @@ impl<T> RangeMap<T> {
         /// assert_eq!(disk.start(), 0xffff_f000);
         /// # Ok::<(), divsharun::Error>(())
         /// ```
-        pub fn allocate_constraint(&mut self, request: Constraint, value: T) -> Result<RangeInclusive> {
-            let index = self.values.len() as u64;
-            let range = self.ranges.allocate_constraint(Global, request.0, index)?;
-            Ok(RangeInclusive(self.keep(range, value)?))
+        pub fn allocate_constraint(&mut self, request: Constraint, value: T) -> ValueResult<T> {
+            Ok(RangeInclusive(self.0.allocate_constraint(Global, request.0, value)?))
         }
 
-        pub fn try_allocate_constraint -> TryResult;
-    }
-
-    /// Keeps the value of a range that is allocated. Without memory for it, the range is freed.
-    fn keep(&mut self, range: Range, value: T) -> vm_addresses::Result<Range> {
-        if let Err(failed) = self.values.push((range.start(), value)) {
-            let _ = self.ranges.free(&range);
-            return Err(failed.into());
-        }
-        Ok(range)
+        pub fn try_allocate_constraint -> TryValueResult;
     }
 
     twins! {
@@ -191,11 +166,7 @@ impl<T> RangeMap<T> {
             range: &RangeInclusive,
             request: Constraint,
         ) -> Result<RangeInclusive> {
-            let to = self.ranges.move_constraint(Global, &range.0, request.0)?;
-            if let Some(at) = self.ranges.get(to.start()) {
-                self.values[at.value as usize].0 = to.start();
-            }
-            Ok(RangeInclusive(to))
+            Ok(RangeInclusive(self.0.move_constraint(Global, &range.0, request.0)?))
         }
 
         pub fn try_move_constraint -> TryResult;
@@ -224,12 +195,7 @@ impl<T> RangeMap<T> {
     /// ```
     #[doc(alias("release", "remove"))]
     pub fn free(&mut self, range: &RangeInclusive) -> Result<T> {
-        let index = self.ranges.free(&range.0)?;
-        let (_, value) = self.values.swap_remove(index as usize);
-        if let Some((start, _)) = self.values.get(index as usize) {
-            self.ranges.set(*start, index);
-        }
-        Ok(value)
+        Ok(self.0.free(&range.0)?)
     }
 
     /// Returns the allocated range that contains an address, and its value, or `None` if the address is
@@ -251,8 +217,8 @@ impl<T> RangeMap<T> {
     #[doc(alias("find", "held_at"))]
     #[must_use]
     pub fn get(&self, address: u64) -> Option<(RangeInclusive, &T)> {
-        let at = self.ranges.get(address)?;
-        Some((RangeInclusive(at.range), &self.values[at.value as usize].1))
+        let (range, value) = self.0.get(address)?;
+        Some((RangeInclusive(range), value))
     }
 
     /// Returns the allocated range that contains an address, and its value to change it, or `None` if the
@@ -273,9 +239,9 @@ impl<T> RangeMap<T> {
     /// ```
     #[must_use]
     pub fn get_mut(&mut self, address: u64) -> Option<(RangeInclusive, &mut T)> {
-        let at = self.ranges.get(address)?;
-        let value = &mut self.values[at.value as usize].1;
-        Some((RangeInclusive(at.range), value))
+        let range = self.0.addresses().held_at(address)?;
+        let value = self.0.get_mut(range.start())?;
+        Some((RangeInclusive(range), value))
     }
 
     /// Returns an iterator over the allocated ranges with their values, in ascending order.
@@ -295,7 +261,7 @@ impl<T> RangeMap<T> {
     /// ```
     #[must_use]
     pub fn iter(&self) -> ValuedRanges<'_, T> {
-        ValuedRanges(self.ranges.iter(), &self.values)
+        ValuedRanges(self.0.iter())
     }
 
     /// Returns the number of allocated ranges in constant time.
@@ -313,7 +279,7 @@ impl<T> RangeMap<T> {
     #[doc(alias("is_empty", "len"))]
     #[must_use]
     pub fn held_count(&self) -> u64 {
-        self.ranges.addresses().held_count()
+        self.0.addresses().held_count()
     }
 
     /// Returns the space: the range of all addresses, free or allocated.
@@ -329,7 +295,7 @@ impl<T> RangeMap<T> {
     /// ```
     #[must_use]
     pub fn space(&self) -> RangeInclusive {
-        RangeInclusive(self.ranges.addresses().space())
+        RangeInclusive(self.0.addresses().space())
     }
 
     /// Returns a copy, or an error if memory runs out. A clone of a value that allocates memory can still
@@ -342,9 +308,7 @@ impl<T> RangeMap<T> {
     where
         T: Clone,
     {
-        let ranges = self.ranges.try_clone(Global)?;
-        let values = self.values.clone().map_err(vm_addresses::Error::from)?;
-        Ok(RangeMap { ranges, values })
+        Ok(RangeMap(self.0.try_clone(Global)?))
     }
 }
 
@@ -354,7 +318,7 @@ allocator! {
 
 impl<T: PartialEq> PartialEq for RangeMap<T> {
     fn eq(&self, other: &Self) -> bool {
-        self.space() == other.space() && self.iter().eq(other)
+        self.0 == other.0
     }
 }
 
@@ -374,17 +338,17 @@ impl<T: fmt::Debug> fmt::Debug for RangeMap<T> {
 /// both ends. Its length is exact.
 ///
 /// It is created by [`iter`](RangeMap::iter).
-pub struct ValuedRanges<'a, T>(proved::ValuedRanges<'a>, &'a [(u64, T)]);
+pub struct ValuedRanges<'a, T>(proved::ValuedRanges<'a, T>);
 
 iterate! {
     ValuedRanges<T>: (RangeInclusive, &'a T),
-    |ranges, at| (RangeInclusive(at.range), &ranges.1[at.value as usize].1)
+    |_ranges, found| (RangeInclusive(found.0), found.1)
 }
 
 impl<T> ExactSizeIterator for ValuedRanges<'_, T> {}
 
 impl<T> Clone for ValuedRanges<'_, T> {
     fn clone(&self) -> Self {
-        ValuedRanges(self.0.clone(), self.1)
+        ValuedRanges(self.0.clone())
     }
 }
