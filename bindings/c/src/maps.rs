@@ -61,13 +61,13 @@ calls! {
     reads dvs_range_map_list(
         map: In<dvs_range_map>, from: u64, ranges: *mut dvs_valued_range, capacity: usize
     ) -> count: usize {
-        let held = map.addresses().held_ranges_in(&at_or_above(map.addresses(), from)?);
+        let held = map.held_ranges_in(&at_or_above(map.addresses(), from)?);
         // SAFETY: the array is as the header requires.
-        unsafe { fill(held.filter_map(|range| map.get(range.start())), ranges, capacity) }?
+        unsafe { fill(held, ranges, capacity) }?
     }
     reads dvs_range_map_count(map: In<dvs_range_map>) -> count: u64 { map.addresses().held_count() }
     reads dvs_range_map_space(map: In<dvs_range_map>) -> ends: dvs_range {
-        map.addresses().space().into()
+        map.space().into()
     }
 }
 

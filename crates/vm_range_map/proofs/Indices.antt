@@ -162,185 +162,157 @@ module _ {X : Type 0} where
           ∙ sym (with_other (values_of vs) item.start item.value q d ∙ got_value indices vs i q))
           (same_or_not q item.start))
 
-    -- ---- An item that is replaced by one at the same start, or at one without a value
-    module _ (k : ℕ) (old item : ValueAt X) (at : slice_get vs k ≡ Some old)
-        (here : slice_get new k ≡ Some item) (others : (j : ℕ) → j ≢ k → slice_get new j ≡ slice_get vs j) where
+    -- ---- The items other than one keep their indices
+    module _ (k : ℕ) (old : ValueAt X) (at : slice_get vs k ≡ Some old) (others : (j : ℕ) → j ≢ k → slice_get new j ≡ slice_get vs j) where
       -- The index of the item before.
       index : map.get indices old.start ≡ Some k
       index = i.found k old at
 
-      -- At the same start, the indices stay.
-      module _ (same : item.start ≡ old.start) where
-        written_found : (j : ℕ) (v : ValueAt X) → slice_get new j ≡ Some v → map.get indices v.start ≡ Some j
-        written_found j v h =
-            ⊎_elim
-            (λ (e : j ≡ k).
-            let is : item ≡ v = cc (sym here ∙ ap (λ (m : ℕ). slice_get new m) (sym e) ∙ h) in
-            ap (λ (u : ValueAt X). map.get indices u.start) (sym is) ∙ ap (λ (s : ℕ). map.get indices s) same ∙ index ∙ ap (λ (m : ℕ). Some m) (sym e))
-            (λ (d : j ≢ k). i.found j v (sym (others j d) ∙ h))
-            (same_or_not j k)
+      -- An item with another start is at another index.
+      other_item : (s j : ℕ) → map.get indices s ≡ Some j → s ≢ old.start → j ≢ k
+      other_item s j g d e =
+          let t = i.there s j g in
+          let is : old ≡ t.0 = cc (sym at ∙ ap (λ (m : ℕ). slice_get vs m) (sym e) ∙ t.1) in
+          d (sym t.2 ∙ ap (λ (u : ValueAt X). u.start) (sym is))
 
-        written_there : (s j : ℕ) → map.get indices s ≡ Some j → (v : ValueAt X) × (slice_get new j ≡ Some v) × (v.start ≡ s)
-        written_there s j h =
-            let t = i.there s j h in
-            ⊎_elim
-            (λ (e : j ≡ k).
-            let is : old ≡ t.0 = cc (sym at ∙ ap (λ (m : ℕ). slice_get vs m) (sym e) ∙ t.1) in
-            (item, ap (λ (m : ℕ). slice_get new m) e ∙ here, same ∙ ap (λ (u : ValueAt X). u.start) is ∙ t.2))
-            (λ (d : j ≢ k). (t.0, others j d ∙ t.1, t.2))
-            (same_or_not j k)
+      other_value : (q : ℕ) (o : Option ℕ) → map.get indices q ≡ o → q ≢ old.start → value_in new o ≡ value_in vs o
+      other_value q None g d = refl
+      other_value q (Some j) g d = ap (λ (u : Option (ValueAt X)). option_map value_of u) (others j (other_item q j g d))
 
-        pub written : AreIndexed indices new
-        written = record { found = written_found; there = written_there }
+      other_there : (s j : ℕ) → map.get indices s ≡ Some j → s ≢ old.start → (v : ValueAt X) × (slice_get new j ≡ Some v) × (v.start ≡ s)
+      other_there s j g d = let t = i.there s j g in (t.0, others j (other_item s j g d) ∙ t.1, t.2)
 
-        written_value : (q : ℕ) (o : Option ℕ) → map.get indices q ≡ o → q ≢ old.start → value_in new o ≡ value_in vs o
-        written_value q None g d = refl
-        written_value q (Some j) g d =
-            ap (λ (u : Option (ValueAt X)). option_map value_of u)
-            (others j (λ e. let t = i.there q j g in
-            let is : old ≡ t.0 = cc (sym at ∙ ap (λ (m : ℕ). slice_get vs m) (sym e) ∙ t.1) in
-            d (sym t.2 ∙ ap (λ (u : ValueAt X). u.start) (sym is))))
+      -- ---- The item is replaced by one at the same start, or at one without a value
+      module _ (item : ValueAt X) (here : slice_get new k ≡ Some item) where
+        -- At the same start, the indices stay.
+        module _ (same : item.start ≡ old.start) where
+          written_found : (j : ℕ) (v : ValueAt X) → slice_get new j ≡ Some v → map.get indices v.start ≡ Some j
+          written_found j v h =
+              ⊎_elim
+              (λ (e : j ≡ k).
+              let is : item ≡ v = cc (sym here ∙ ap (λ (m : ℕ). slice_get new m) (sym e) ∙ h) in
+              ap (λ (u : ValueAt X). map.get indices u.start) (sym is) ∙ ap (λ (s : ℕ). map.get indices s) same ∙ index ∙ ap (λ (m : ℕ). Some m) (sym e))
+              (λ (d : j ≢ k). i.found j v (sym (others j d) ∙ h))
+              (same_or_not j k)
 
-        pub values_written : values_of new ≡ map.insert (values_of vs) old.start item.value
-        values_written = same_values indices new written (map.insert (values_of vs) old.start item.value) (λ q.
-            ⊎_elim
-            (λ (e : q ≡ old.start).
-            ap (λ (s : ℕ). value_in new (map.get indices s)) e ∙ ap (λ (o : Option ℕ). value_in new o) index
-            ∙ ap (λ (u : Option (ValueAt X)). option_map value_of u) here
-            ∙ sym (ap (λ (s : ℕ). map.get (map.insert (values_of vs) old.start item.value) s) e ∙ with_here (values_of vs) old.start item.value))
-            (λ (d : q ≢ old.start).
-            written_value q (map.get indices q) refl d
-            ∙ sym (with_other (values_of vs) old.start item.value q d ∙ got_value indices vs i q))
-            (same_or_not q old.start))
+          written_there : (s j : ℕ) → map.get indices s ≡ Some j → (v : ValueAt X) × (slice_get new j ≡ Some v) × (v.start ≡ s)
+          written_there s j h =
+              ⊎_elim
+              (λ (e : s ≡ old.start).
+              let is : k ≡ j = cc (sym index ∙ ap (λ (q : ℕ). map.get indices q) (sym e) ∙ h) in
+              (item, ap (λ (m : ℕ). slice_get new m) (sym is) ∙ here, same ∙ sym e))
+              (λ (d : s ≢ old.start). other_there s j h d)
+              (same_or_not s old.start)
 
-      -- At another start, the index moves there.
-      module _ (none : map.get indices item.start ≡ None) where
-        abbrev moved_indices : map.FinMap nat_cmp ℕ
-        moved_indices = map.remove (map.insert indices item.start k) old.start
+          pub written : AreIndexed indices new
+          written = record { found = written_found; there = written_there }
 
-        apart : item.start ≢ old.start
-        apart e = not_there old.start item.start k index none (sym e)
+          pub values_written : values_of new ≡ map.insert (values_of vs) old.start item.value
+          values_written = same_values indices new written (map.insert (values_of vs) old.start item.value) (λ q.
+              ⊎_elim
+              (λ (e : q ≡ old.start).
+              ap (λ (s : ℕ). value_in new (map.get indices s)) e ∙ ap (λ (o : Option ℕ). value_in new o) index
+              ∙ ap (λ (u : Option (ValueAt X)). option_map value_of u) here
+              ∙ sym (ap (λ (s : ℕ). map.get (map.insert (values_of vs) old.start item.value) s) e ∙ with_here (values_of vs) old.start item.value))
+              (λ (d : q ≢ old.start).
+              other_value q (map.get indices q) refl d
+              ∙ sym (with_other (values_of vs) old.start item.value q d ∙ got_value indices vs i q))
+              (same_or_not q old.start))
 
-        moved_here : map.get moved_indices item.start ≡ Some k
-        moved_here = without_other (map.insert indices item.start k) old.start item.start apart ∙ with_here indices item.start k
+        -- At another start, the index moves there.
+        module _ (none : map.get indices item.start ≡ None) where
+          abbrev moved_indices : map.FinMap nat_cmp ℕ
+          moved_indices = map.remove (map.insert indices item.start k) old.start
 
-        moved_other : (s : ℕ) → s ≢ old.start → s ≢ item.start → map.get moved_indices s ≡ map.get indices s
-        moved_other s a b = without_other (map.insert indices item.start k) old.start s a ∙ with_other indices item.start k s b
+          apart : item.start ≢ old.start
+          apart e = not_there old.start item.start k index none (sym e)
 
-        moved_found : (j : ℕ) (v : ValueAt X) → slice_get new j ≡ Some v → map.get moved_indices v.start ≡ Some j
-        moved_found j v h =
-            ⊎_elim
-            (λ (e : j ≡ k).
-            let is : item ≡ v = cc (sym here ∙ ap (λ (m : ℕ). slice_get new m) (sym e) ∙ h) in
-            ap (λ (u : ValueAt X). map.get moved_indices u.start) (sym is) ∙ moved_here ∙ ap (λ (m : ℕ). Some m) (sym e))
-            (λ (d : j ≢ k).
+          moved_here : map.get moved_indices item.start ≡ Some k
+          moved_here = without_other (map.insert indices item.start k) old.start item.start apart ∙ with_here indices item.start k
+
+          moved_other : (s : ℕ) → s ≢ old.start → s ≢ item.start → map.get moved_indices s ≡ map.get indices s
+          moved_other s a b = without_other (map.insert indices item.start k) old.start s a ∙ with_other indices item.start k s b
+
+          moved_found : (j : ℕ) (v : ValueAt X) → slice_get new j ≡ Some v → map.get moved_indices v.start ≡ Some j
+          moved_found j v h =
+              ⊎_elim
+              (λ (e : j ≡ k).
+              let is : item ≡ v = cc (sym here ∙ ap (λ (m : ℕ). slice_get new m) (sym e) ∙ h) in
+              ap (λ (u : ValueAt X). map.get moved_indices u.start) (sym is) ∙ moved_here ∙ ap (λ (m : ℕ). Some m) (sym e))
+              (λ (d : j ≢ k).
+              let was = i.found j v (sym (others j d) ∙ h) in
+              moved_other v.start (other_index v.start old.start j k was index d) (not_there v.start item.start j was none) ∙ was)
+              (same_or_not j k)
+
+          moved_there : (s j : ℕ) → map.get moved_indices s ≡ Some j → (v : ValueAt X) × (slice_get new j ≡ Some v) × (v.start ≡ s)
+          moved_there s j h =
+              ⊎_elim
+              (λ (e : s ≡ item.start).
+              let is : k ≡ j = cc (sym moved_here ∙ ap (λ (q : ℕ). map.get moved_indices q) (sym e) ∙ h) in
+              (item, ap (λ (m : ℕ). slice_get new m) (sym is) ∙ here, sym e))
+              (λ (d : s ≢ item.start).
+              let old_start : s ≢ old.start = λ e.
+              cc (sym (without_here (map.insert indices item.start k) old.start) ∙ ap (λ (q : ℕ). map.get moved_indices q) (sym e) ∙ h) in
+              other_there s j (sym (moved_other s old_start d) ∙ h) old_start)
+              (same_or_not s item.start)
+
+          pub moved : AreIndexed moved_indices new
+          moved = record { found = moved_found; there = moved_there }
+
+          abbrev moved_values : map.FinMap nat_cmp X
+          moved_values = map.insert (map.remove (values_of vs) old.start) item.start item.value
+
+          pub values_moved : values_of new ≡ moved_values
+          values_moved = same_values moved_indices new moved moved_values (λ q.
+              ⊎_elim
+              (λ (e : q ≡ item.start).
+              ap (λ (s : ℕ). value_in new (map.get moved_indices s)) e ∙ ap (λ (o : Option ℕ). value_in new o) moved_here
+              ∙ ap (λ (u : Option (ValueAt X)). option_map value_of u) here
+              ∙ sym (ap (λ (s : ℕ). map.get moved_values s) e ∙ with_here (map.remove (values_of vs) old.start) item.start item.value))
+              (λ (d : q ≢ item.start).
+              ⊎_elim
+              (λ (e : q ≡ old.start).
+              ap (λ (s : ℕ). value_in new (map.get moved_indices s)) e
+              ∙ ap (λ (o : Option ℕ). value_in new o) (without_here (map.insert indices item.start k) old.start)
+              ∙ sym (ap (λ (s : ℕ). map.get moved_values s) e
+              ∙ with_other (map.remove (values_of vs) old.start) item.start item.value old.start (λ f. apart (sym f))
+              ∙ without_here (values_of vs) old.start))
+              (λ (f : q ≢ old.start).
+              ap (λ (o : Option ℕ). value_in new o) (moved_other q f d) ∙ other_value q (map.get indices q) refl f
+              ∙ sym (with_other (map.remove (values_of vs) old.start) item.start item.value q d ∙ without_other (values_of vs) old.start q f
+              ∙ got_value indices vs i q))
+              (same_or_not q old.start))
+              (same_or_not q item.start))
+
+      -- ---- The item is the last one, and is taken out
+      module _ (past : slice_get new k ≡ None) where
+        abbrev fewer : map.FinMap nat_cmp ℕ
+        fewer = map.remove indices old.start
+
+        cut_found : (j : ℕ) (v : ValueAt X) → slice_get new j ≡ Some v → map.get fewer v.start ≡ Some j
+        cut_found j v h =
+            let d : j ≢ k = λ e. cc (sym past ∙ ap (λ (m : ℕ). slice_get new m) (sym e) ∙ h) in
             let was = i.found j v (sym (others j d) ∙ h) in
-            moved_other v.start (other_index v.start old.start j k was index d) (not_there v.start item.start j was none) ∙ was)
-            (same_or_not j k)
+            without_other indices old.start v.start (other_index v.start old.start j k was index d) ∙ was
 
-        not_old : (s j : ℕ) → map.get moved_indices s ≡ Some j → s ≢ old.start
-        not_old s j h e =
-            cc (sym (without_here (map.insert indices item.start k) old.start) ∙ ap (λ (q : ℕ). map.get moved_indices q) (sym e) ∙ h)
+        cut_there : (s j : ℕ) → map.get fewer s ≡ Some j → (v : ValueAt X) × (slice_get new j ≡ Some v) × (v.start ≡ s)
+        cut_there s j h =
+            let n : s ≢ old.start = λ e. cc (sym (without_here indices old.start) ∙ ap (λ (q : ℕ). map.get fewer q) (sym e) ∙ h) in
+            other_there s j (sym (without_other indices old.start s n) ∙ h) n
 
-        moved_there : (s j : ℕ) → map.get moved_indices s ≡ Some j → (v : ValueAt X) × (slice_get new j ≡ Some v) × (v.start ≡ s)
-        moved_there s j h =
-            ⊎_elim
-            (λ (e : s ≡ item.start).
-            let is : k ≡ j = cc (sym moved_here ∙ ap (λ (q : ℕ). map.get moved_indices q) (sym e) ∙ h) in
-            (item, ap (λ (m : ℕ). slice_get new m) (sym is) ∙ here, sym e))
-            (λ (d : s ≢ item.start).
-            let was = sym (moved_other s (not_old s j h) d) ∙ h in
-            let t = i.there s j was in
-            let other : j ≢ k = λ e.
-            let is : old ≡ t.0 = cc (sym at ∙ ap (λ (m : ℕ). slice_get vs m) (sym e) ∙ t.1) in
-            not_old s j h (sym t.2 ∙ ap (λ (u : ValueAt X). u.start) (sym is)) in
-            (t.0, others j other ∙ t.1, t.2))
-            (same_or_not s item.start)
+        pub cut : AreIndexed fewer new
+        cut = record { found = cut_found; there = cut_there }
 
-        pub moved : AreIndexed moved_indices new
-        moved = record { found = moved_found; there = moved_there }
-
-        abbrev moved_values : map.FinMap nat_cmp X
-        moved_values = map.insert (map.remove (values_of vs) old.start) item.start item.value
-
-        moved_value : (q : ℕ) (o : Option ℕ) → map.get indices q ≡ o → q ≢ old.start → value_in new o ≡ value_in vs o
-        moved_value q None g d = refl
-        moved_value q (Some j) g d =
-            ap (λ (u : Option (ValueAt X)). option_map value_of u)
-            (others j (λ e. let t = i.there q j g in
-            let is : old ≡ t.0 = cc (sym at ∙ ap (λ (m : ℕ). slice_get vs m) (sym e) ∙ t.1) in
-            d (sym t.2 ∙ ap (λ (u : ValueAt X). u.start) (sym is))))
-
-        pub values_moved : values_of new ≡ moved_values
-        values_moved = same_values moved_indices new moved moved_values (λ q.
-            ⊎_elim
-            (λ (e : q ≡ item.start).
-            ap (λ (s : ℕ). value_in new (map.get moved_indices s)) e ∙ ap (λ (o : Option ℕ). value_in new o) moved_here
-            ∙ ap (λ (u : Option (ValueAt X)). option_map value_of u) here
-            ∙ sym (ap (λ (s : ℕ). map.get moved_values s) e ∙ with_here (map.remove (values_of vs) old.start) item.start item.value))
-            (λ (d : q ≢ item.start).
+        pub values_cut : values_of new ≡ map.remove (values_of vs) old.start
+        values_cut = same_values fewer new cut (map.remove (values_of vs) old.start) (λ q.
             ⊎_elim
             (λ (e : q ≡ old.start).
-            ap (λ (s : ℕ). value_in new (map.get moved_indices s)) e
-            ∙ ap (λ (o : Option ℕ). value_in new o) (without_here (map.insert indices item.start k) old.start)
-            ∙ sym (ap (λ (s : ℕ). map.get moved_values s) e
-            ∙ with_other (map.remove (values_of vs) old.start) item.start item.value old.start (λ f. apart (sym f))
-            ∙ without_here (values_of vs) old.start))
-            (λ (f : q ≢ old.start).
-            ap (λ (o : Option ℕ). value_in new o) (moved_other q f d) ∙ moved_value q (map.get indices q) refl f
-            ∙ sym (with_other (map.remove (values_of vs) old.start) item.start item.value q d ∙ without_other (values_of vs) old.start q f
-            ∙ got_value indices vs i q))
+            ap (λ (s : ℕ). value_in new (map.get fewer s)) e ∙ ap (λ (o : Option ℕ). value_in new o) (without_here indices old.start)
+            ∙ sym (ap (λ (s : ℕ). map.get (map.remove (values_of vs) old.start) s) e ∙ without_here (values_of vs) old.start))
+            (λ (d : q ≢ old.start).
+            ap (λ (o : Option ℕ). value_in new o) (without_other indices old.start q d) ∙ other_value q (map.get indices q) refl d
+            ∙ sym (without_other (values_of vs) old.start q d ∙ got_value indices vs i q))
             (same_or_not q old.start))
-            (same_or_not q item.start))
-
-    -- ---- The last item is taken out
-    module _ (k : ℕ) (old : ValueAt X) (at : slice_get vs k ≡ Some old) (past : slice_get new k ≡ None)
-        (others : (j : ℕ) → j ≢ k → slice_get new j ≡ slice_get vs j) where
-      last_index : map.get indices old.start ≡ Some k
-      last_index = i.found k old at
-
-      abbrev fewer : map.FinMap nat_cmp ℕ
-      fewer = map.remove indices old.start
-
-      cut_found : (j : ℕ) (v : ValueAt X) → slice_get new j ≡ Some v → map.get fewer v.start ≡ Some j
-      cut_found j v h =
-          let d : j ≢ k = λ e. cc (sym past ∙ ap (λ (m : ℕ). slice_get new m) (sym e) ∙ h) in
-          let was = i.found j v (sym (others j d) ∙ h) in
-          without_other indices old.start v.start (other_index v.start old.start j k was last_index d) ∙ was
-
-      not_cut : (s j : ℕ) → map.get fewer s ≡ Some j → s ≢ old.start
-      not_cut s j h e = cc (sym (without_here indices old.start) ∙ ap (λ (q : ℕ). map.get fewer q) (sym e) ∙ h)
-
-      cut_there : (s j : ℕ) → map.get fewer s ≡ Some j → (v : ValueAt X) × (slice_get new j ≡ Some v) × (v.start ≡ s)
-      cut_there s j h =
-          let n = not_cut s j h in
-          let t = i.there s j (sym (without_other indices old.start s n) ∙ h) in
-          let d : j ≢ k = λ e.
-          let is : old ≡ t.0 = cc (sym at ∙ ap (λ (m : ℕ). slice_get vs m) (sym e) ∙ t.1) in
-          n (sym t.2 ∙ ap (λ (u : ValueAt X). u.start) (sym is)) in
-          (t.0, others j d ∙ t.1, t.2)
-
-      pub cut : AreIndexed fewer new
-      cut = record { found = cut_found; there = cut_there }
-
-      cut_value : (q : ℕ) (o : Option ℕ) → map.get indices q ≡ o → q ≢ old.start → value_in new o ≡ value_in vs o
-      cut_value q None g d = refl
-      cut_value q (Some j) g d =
-          ap (λ (u : Option (ValueAt X)). option_map value_of u)
-          (others j (λ e. let t = i.there q j g in
-          let is : old ≡ t.0 = cc (sym at ∙ ap (λ (m : ℕ). slice_get vs m) (sym e) ∙ t.1) in
-          d (sym t.2 ∙ ap (λ (u : ValueAt X). u.start) (sym is))))
-
-      pub values_cut : values_of new ≡ map.remove (values_of vs) old.start
-      values_cut = same_values fewer new cut (map.remove (values_of vs) old.start) (λ q.
-          ⊎_elim
-          (λ (e : q ≡ old.start).
-          ap (λ (s : ℕ). value_in new (map.get fewer s)) e ∙ ap (λ (o : Option ℕ). value_in new o) (without_here indices old.start)
-          ∙ sym (ap (λ (s : ℕ). map.get (map.remove (values_of vs) old.start) s) e ∙ without_here (values_of vs) old.start))
-          (λ (d : q ≢ old.start).
-          ap (λ (o : Option ℕ). value_in new o) (without_other indices old.start q d) ∙ cut_value q (map.get indices q) refl d
-          ∙ sym (without_other (values_of vs) old.start q d ∙ got_value indices vs i q))
-          (same_or_not q old.start))
 
     -- ---- The last item takes the place of one that is taken out
     module _ (k n : ℕ) (old last : ValueAt X) (apart : k ≢ n) (at : slice_get vs k ≡ Some old) (end : slice_get vs n ≡ Some last)

@@ -6,6 +6,7 @@ pub mod MapStates
 pub mod MapCalls
 pub mod ValuedLists
 pub mod Pairs
+pub mod Windows
 pub mod EqualMaps
 pub mod Copies
 pub mod KeptValues

@@ -189,13 +189,13 @@ module _ {X : Type 0} (es : List IndexAt) (vs : List (ValueAt X)) (i : AreIndexe
 
       pub item_written : AreIndexed (indices_of es) (slice_set vs e.index written_item)
       item_written =
-          written (indices_of es) vs (slice_set vs e.index written_item) i e.index old written_item (item_read es vs i s e old found read).0
-          (set_here vs e.index written_item within) (λ j n. set_other vs e.index written_item j n) refl
+          written (indices_of es) vs (slice_set vs e.index written_item) i e.index old (item_read es vs i s e old found read).0
+          (λ j n. set_other vs e.index written_item j n) written_item (set_here vs e.index written_item within) refl
 
       pub values_with : values_of (slice_set vs e.index written_item) ≡ map.insert (values_of vs) s value
       values_with =
-          values_written (indices_of es) vs (slice_set vs e.index written_item) i e.index old written_item (item_read es vs i s e old found read).0
-          (set_here vs e.index written_item within) (λ j n. set_other vs e.index written_item j n) refl
+          values_written (indices_of es) vs (slice_set vs e.index written_item) i e.index old (item_read es vs i s e old found read).0
+          (λ j n. set_other vs e.index written_item j n) written_item (set_here vs e.index written_item within) refl
           ∙ ap (λ (q : ℕ). map.insert (values_of vs) q value) (item_read es vs i s e old found read).1
 
     -- An item is moved to another start.
@@ -213,14 +213,14 @@ module _ {X : Type 0} (es : List IndexAt) (vs : List (ValueAt X)) (i : AreIndexe
           let at = item_read es vs i s e old found read in
           subst (λ (m : map.FinMap nat_cmp ℕ). AreIndexed m (slice_set vs e.index moved_item))
           (ap (λ (q : ℕ). map.remove (map.insert (indices_of es) to e.index) q) at.1 ∙ sym moved_entries)
-          (moved (indices_of es) vs (slice_set vs e.index moved_item) i e.index old moved_item at.0 (set_here vs e.index moved_item within)
-          (λ j n. set_other vs e.index moved_item j n) (no_index (indices_of es) vs i to none))
+          (moved (indices_of es) vs (slice_set vs e.index moved_item) i e.index old at.0 (λ j n. set_other vs e.index moved_item j n)
+          moved_item (set_here vs e.index moved_item within) (no_index (indices_of es) vs i to none))
 
       pub values_with_moved : values_of (slice_set vs e.index moved_item) ≡ map.insert (map.remove (values_of vs) s) to old.value
       values_with_moved =
           let at = item_read es vs i s e old found read in
-          values_moved (indices_of es) vs (slice_set vs e.index moved_item) i e.index old moved_item at.0 (set_here vs e.index moved_item within)
-          (λ j n. set_other vs e.index moved_item j n) (no_index (indices_of es) vs i to none)
+          values_moved (indices_of es) vs (slice_set vs e.index moved_item) i e.index old at.0 (λ j n. set_other vs e.index moved_item j n)
+          moved_item (set_here vs e.index moved_item within) (no_index (indices_of es) vs i to none)
           ∙ ap (λ (q : ℕ). map.insert (map.remove (values_of vs) q) to old.value) at.1
 
     -- An item is taken out, and the last one takes its place.
@@ -269,8 +269,8 @@ module _ {X : Type 0} (es : List IndexAt) (vs : List (ValueAt X)) (i : AreIndexe
             subst (λ (o : Option (ValueAt X)). AreIndexed (indices_of (renumbered o e.index others)) left) (sym none)
                 (subst (λ (m : map.FinMap nat_cmp ℕ). AreIndexed m left)
                 (ap (λ (q : ℕ). map.remove (indices_of es) q) item.2 ∙ sym others_indices)
-                (cut (indices_of es) vs left i e.index item.0 item.1 none same)),
-            values_cut (indices_of es) vs left i e.index item.0 item.1 none same
+                (cut (indices_of es) vs left i e.index item.0 item.1 same none)),
+            values_cut (indices_of es) vs left i e.index item.0 item.1 same none
                 ∙ ap (λ (q : ℕ). map.remove (values_of vs) q) item.2,
           )
       left_by (inr n) =

@@ -1,5 +1,5 @@
 -- The ranges of a map with their values as a list, and the equality of states.
-use Rattle.std.specs.Prelude.{◌&&◌, Bool, List, Option, option_map}
+use Rattle.std.specs.Prelude.{◌&&◌, Bool, List, [], ◌∷◌, Option, IsSome, option_map}
 use Rattle.std.specs.List.{filter_map}
 use Rattle.std.specs.Ordering.{nat_cmp, eq_by_cmp}
 use Rattle.std.specs.Cmp.{IsPartialEquivalence, IsEquivalence, on_per, and_per, on_equiv, and_equiv, eq_by_cmp_equiv, partial_equiv_from_equiv}
@@ -7,6 +7,7 @@ use Rattle.std.specs.Cmp.Lexicographic.{pointwise, lists_per, lists_equiv}
 use Rattle.std.specs.FinMap as map
 use Rattle.vm_ranges.specs.Range.{Range}
 use Rattle.vm_ranges.specs.RangeOrder.{range_cmp, range_cmp-total}
+use Rattle.vm_addresses.specs.Queries.{meeting}
 use Rattle.vm_addresses.specs.Comparison.{state_cmp, state_cmp-total}
 use Rattle.vm_range_map.specs.RangeMaps.{MapState}
 
@@ -18,6 +19,15 @@ module _ {X : Type 0} where
   -- The held ranges with their values, from the lowest to the highest. Each has a value if the state is valid.
   abbrev pub valued_ranges : MapState X → List (Range × X)
   valued_ranges state = filter_map (valued_in state.values) state.space.held
+
+  -- The held ranges that have an address in common with the window, with their values.
+  abbrev pub valued_ranges_in : Range → MapState X → List (Range × X)
+  valued_ranges_in window state = filter_map (valued_in state.values) (meeting window state.space.held)
+
+  -- Each range has a value in the table.
+  abbrev pub AreValued : map.FinMap nat_cmp X → List Range → Type 0
+  AreValued values [] = Unit {0}
+  AreValued values (r ∷ rs) = IsSome (map.get values r.start) × AreValued values rs
 
   -- Whether both ranges are the same, and their values are equal.
   abbrev pub same_valued : (X → X → Bool) → Range × X → Range × X → Bool

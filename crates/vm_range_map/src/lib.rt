@@ -17,7 +17,8 @@
 //!   change.
 //! - The result of a call depends only on the space, the allocated ranges and their values, unless memory runs
 //!   out.
-//! - An iterator returns each range once, with its value, in order, from both ends.
+//! - An iterator returns each range once, with its value, in order, from both ends, also if only the ranges in a window
+//!   are asked for.
 //! - A copy has the same space and the same ranges, each with a clone of its value.
 //!
 //! # What is only tested
@@ -32,5 +33,5 @@ mod laws;
 mod range_map;
 mod refused;
 
-pub use range_map::{RangeMap, ValuedRanges};
+pub use range_map::{RangeMap, ValuedRanges, ValuedRangesIn};
 pub use refused::Refused;

@@ -271,7 +271,7 @@ pub use layout::{Block, Blocks, Layout};
 pub use proved::vm_ids::IdRequest;
 pub use proved::vm_ranges::{AllocPolicy, NodeState, DEFAULT_CONSTRAINT_ALIGN};
 pub use range::{ParseRangeError, RangeInclusive};
-pub use range_map::{RangeMap, ValuedRanges};
+pub use range_map::{RangeMap, ValuedRanges, ValuedRangesIn};
 #[cfg(feature = "serde")]
 pub use saved::{Saved, Strict};
 

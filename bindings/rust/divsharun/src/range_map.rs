@@ -1,9 +1,10 @@
 // SPDX-License-Identifier: Apache-2.0 OR BSD-3-Clause
+use crate::address_allocator::part_of;
 use crate::error::{TryResult, TryValueResult, ValueResult};
 use crate::proved::vm_range_map as proved;
 use crate::rattle::Global;
 use crate::traits::{allocator, iterate, twins, DebugList};
-use crate::{AllocPolicy, Constraint, RangeInclusive, Result};
+use crate::{AllocPolicy, Conflict, Constraint, Gaps, RangeInclusive, Result, Window};
 use core::fmt;
 
 /// Allocates ranges of addresses from one space, and keeps a value with each allocated range, such as
@@ -264,6 +265,98 @@ impl<T> RangeMap<T> {
         ValuedRanges(self.0.iter())
     }
 
+    /// Returns an iterator over the allocated ranges that have an address in common with a window, with
+    /// their values, in ascending order.
+    ///
+    /// The window is a range of `u64` or a [`RangeInclusive`]. Each range is returned whole. It walks one
+    /// path of the tree for each end of the window, looks each value up, and does not allocate.
+    ///
+    /// # Example
+    ///
+    /// ```rust
+    /// use divsharun::{AllocPolicy, RangeMap};
+    ///
+    /// let mut bus = RangeMap::new(0xd000_0000, 0x2ec0_0000)?;
+    /// let disk = bus.allocate(0x4000, 0x4000, AllocPolicy::FirstMatch, "disk")?;
+    /// let net = bus.allocate(0x4000, 0x4000, AllocPolicy::FirstMatch, "net")?;
+    /// assert!(bus.held_ranges_in(0xd000_3000..0xd000_8000).rev().eq([(net, &"net"), (disk, &"disk")]));
+    /// assert_eq!(bus.held_ranges_in(0xd000_8000..).next(), None);
+    /// # Ok::<(), divsharun::Error>(())
+    /// ```
+    #[must_use]
+    pub fn held_ranges_in(&self, window: impl Window) -> ValuedRangesIn<'_, T> {
+        ValuedRangesIn(self.0.held_ranges_in(&part_of(self.space(), window).0))
+    }
+
+    /// Returns an iterator over the gaps in ascending order, as by
+    /// [`AddressAllocator::gaps`](crate::AddressAllocator::gaps).
+    ///
+    /// # Example
+    ///
+    /// ```rust
+    /// use divsharun::{AllocPolicy, RangeMap};
+    ///
+    /// let mut ports = RangeMap::new(0, 0x100)?;
+    /// ports.allocate(0x10, 1, AllocPolicy::ExactMatch(0x40), "video")?;
+    /// let gaps: Vec<_> = ports.gaps().map(|gap| gap.to_string()).collect();
+    /// assert_eq!(gaps, ["0-3f", "50-ff"]);
+    /// # Ok::<(), divsharun::Error>(())
+    /// ```
+    #[doc(alias("free_ranges", "holes"))]
+    #[must_use]
+    pub fn gaps(&self) -> Gaps<'_> {
+        Gaps(self.0.addresses().gaps())
+    }
+
+    /// Returns the reason why the range of an `ExactMatch` request is not free, or `None` if it is free, as
+    /// by [`AddressAllocator::conflict`](crate::AddressAllocator::conflict).
+    ///
+    /// # Example
+    ///
+    /// ```rust
+    /// use divsharun::{AllocPolicy, Conflict, Constraint, RangeMap};
+    ///
+    /// let mut ports = RangeMap::new(0, 0x1_0000)?;
+    /// let serial = ports.allocate(8, 8, AllocPolicy::ExactMatch(0x3f8), "serial")?;
+    ///
+    /// let video = Constraint::new(0x30, 0x10, AllocPolicy::ExactMatch(0x3d0))?;
+    /// let refused = ports.allocate_constraint(video, "video").unwrap_err();
+    /// assert_eq!(ports.conflict(video), Some(Conflict::Allocated(serial)));
+    ///
+    /// ports.free(&serial)?;
+    /// assert_eq!(ports.conflict(video), None);
+    /// ports.allocate_constraint(video, refused.value)?;
+    /// # Ok::<(), divsharun::Error>(())
+    /// ```
+    #[must_use]
+    pub fn conflict(&self, request: Constraint) -> Option<Conflict> {
+        self.0.addresses().conflict(request.0).map(Into::into)
+    }
+
+    /// Returns the reason why the range of an `ExactMatch` request is not free if `range` is free, as by
+    /// [`AddressAllocator::move_conflict`](crate::AddressAllocator::move_conflict). So `range` is never the
+    /// reason. Returns `None` if exactly `range` is not allocated.
+    ///
+    /// # Example
+    ///
+    /// ```rust
+    /// use divsharun::{AllocPolicy, Conflict, Constraint, RangeMap};
+    ///
+    /// let mut bus = RangeMap::new(0xd000_0000, 0x1000_0000)?;
+    /// let bar = bus.allocate(0x4000, 0x4000, AllocPolicy::FirstMatch, "net")?;
+    /// let next = bus.allocate(0x4000, 0x4000, AllocPolicy::FirstMatch, "disk")?;
+    ///
+    /// let larger = Constraint::new(0x8000, 0x8000, AllocPolicy::ExactMatch(bar.start()))?;
+    /// assert!(bus.move_constraint(&bar, larger).is_err());
+    /// assert_eq!(bus.move_conflict(&bar, larger), Some(Conflict::Allocated(next)));
+    /// # Ok::<(), divsharun::Error>(())
+    /// ```
+    #[must_use]
+    pub fn move_conflict(&self, range: &RangeInclusive, request: Constraint) -> Option<Conflict> {
+        let conflict = self.0.addresses().move_conflict(&range.0, request.0);
+        conflict.map(Into::into)
+    }
+
     /// Returns the number of allocated ranges in constant time.
     ///
     /// # Example
@@ -295,7 +388,7 @@ impl<T> RangeMap<T> {
     /// ```
     #[must_use]
     pub fn space(&self) -> RangeInclusive {
-        RangeInclusive(self.0.addresses().space())
+        RangeInclusive(self.0.space())
     }
 
     /// Returns a copy, or an error if memory runs out. A clone of a value that allocates memory can still
@@ -340,8 +433,14 @@ impl<T: fmt::Debug> fmt::Debug for RangeMap<T> {
 /// It is created by [`iter`](RangeMap::iter).
 pub struct ValuedRanges<'a, T>(proved::ValuedRanges<'a, T>);
 
+/// An iterator over the allocated ranges of a [`RangeMap`] that have an address in common with a window,
+/// with their values, in ascending order or from both ends.
+///
+/// It is created by [`held_ranges_in`](RangeMap::held_ranges_in).
+pub struct ValuedRangesIn<'a, T>(proved::ValuedRangesIn<'a, T>);
+
 iterate! {
-    ValuedRanges<T>: (RangeInclusive, &'a T),
+    ValuedRanges<T>, ValuedRangesIn<T>: (RangeInclusive, &'a T),
     |_ranges, found| (RangeInclusive(found.0), found.1)
 }
 
@@ -350,5 +449,11 @@ impl<T> ExactSizeIterator for ValuedRanges<'_, T> {}
 impl<T> Clone for ValuedRanges<'_, T> {
     fn clone(&self) -> Self {
         ValuedRanges(self.0.clone())
+    }
+}
+
+impl<T> Clone for ValuedRangesIn<'_, T> {
+    fn clone(&self) -> Self {
+        ValuedRangesIn(self.0.clone())
     }
 }

@@ -10,7 +10,7 @@ mod refusing;
 use divsharun::AllocPolicy::{ExactMatch, FirstMatch, LastMatch};
 use divsharun::{Constraint, Error, RangeInclusive, RangeMap, TryError};
 use draw::Draw;
-use items::{exact, expect_items};
+use items::{exact, expect_items, inexact};
 use model::{refused, Model, WIDTH};
 use refusing::{blocks, refusing};
 use std::collections::BTreeMap;
@@ -118,9 +118,20 @@ impl Compared {
         let list: Vec<_> = self.values.iter().map(|(range, at)| (*range, at)).collect();
         assert!(self.map.iter().eq(list.iter().copied()));
         assert_eq!(self.map.held_count(), list.len() as u64);
+        let space = self.map.space();
+        let (low, high) = (
+            space.start() + draw.below(space.len()),
+            space.start() + draw.below(space.len()),
+        );
+        let window = RangeInclusive::new(low.min(high), low.max(high)).unwrap();
+        let inside = |(range, _): &(RangeInclusive, &u64)| range.overlaps(&window);
+        let within: Vec<_> = list.iter().copied().filter(inside).collect();
         if draw.below(20) == 0 {
             expect_items((&self.map).into_iter(), &list, exact, draw);
+            expect_items(self.map.held_ranges_in(window), &within, inexact, draw);
         }
+        assert!(self.map.held_ranges_in(window).eq(within));
+        assert_eq!(self.map.held_ranges_in(..).count(), list.len());
         for fails in 0..4 {
             let copy = answered(fails, || self.map.try_clone());
             copy.into_iter()

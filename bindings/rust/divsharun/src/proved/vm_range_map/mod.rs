@@ -6,5 +6,5 @@
 mod range_map;
 mod refused;
 
-pub use range_map::{RangeMap, ValuedRanges};
+pub use range_map::{RangeMap, ValuedRanges, ValuedRangesIn};
 pub use refused::Refused;

@@ -14,9 +14,11 @@ mod comparing;
 mod iter;
 mod moving;
 mod value_table;
+mod windows;
 
 pub use self::iter::ValuedRanges;
 use self::value_table::ValueTable;
+pub use self::windows::ValuedRangesIn;
 
 /// Allocates ranges of addresses from one space, and keeps a value with each allocated range.
 ///
@@ -94,6 +96,11 @@ impl<T> RangeMap<T> {
             Some(place) => Ok(mem::replace(place, value)),
             None => Err(value),
         }
+    }
+
+    /// Returns the range of all addresses of the space.
+    pub fn space(&self) -> RangeInclusive {
+        self.addresses.space()
     }
 
     /// Returns the allocator of the addresses, to read.

@@ -6,7 +6,7 @@ use Rattle.vm_range_map.specs.MapLends.{WritesAt}
 use Rattle.vm_range_map.proofs.MapCalls.{none_set, written_set, written_state, written_tree}
 use Rattle.vm_range_map.proofs.range_map.RangeMap.set.Goals as goal
 
--- What holds of a result that is there.
+-- A fact on a result holds if it is there.
 of_some : {A : Type 0} (o : Option A) (x : A) (P : Type 0) → o ≡ Some x → OnSome o P → P
 of_some None x P e h = absurd (cc (e))
 of_some (Some y) x P e h = h
