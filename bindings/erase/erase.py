@@ -61,7 +61,7 @@ METHODS = set("""and_then append as_array as_object as_slice as_str as_u64 capac
     extend_from_slice fill finish first flush get ilog2 insert into is_ascii_digit is_empty is_err is_none
     is_null is_ok is_power_of_two is_some iter last len max min next next_back ok ok_or partition_point pop
     pop_first position push range read remove reserve rotate_left rotate_right saturating_add saturating_sub
-    split_at split_at_mut split_first split_last split_off swap_with_slice take trailing_zeros truncate unwrap
+    split_at split_at_mut split_first split_last split_off swap_remove swap_with_slice take trailing_zeros truncate unwrap
     write_all write_str""".split())
 MACROS = {"json", "matches", "unreachable"}
 DERIVES = {"Clone", "Copy", "Debug", "Default", "Drop", "Eq", "Error", "Hash", "Ord", "PartialEq", "PartialOrd"}
@@ -113,7 +113,7 @@ TOKEN = re.compile(r"""(?P<blank>\s+|//(?![/!])[^\n]*|////[^\n]*)
  |(?P<number>(?:0x[0-9a-fA-F_]+|0b[01_]+|[0-9][0-9_]*)(?:u8|u32|u64|u128|usize)?(?!\w|\.[0-9]))
  |(?P<mark>::|->|=>|==|!=|<=|>=|&&|\|\||\.\.=|\.\.|[-+*/%&|^]=|<<|>>|[{}()\[\]<>,;:.=+\-*/%&|^!?\#])""",
                    re.VERBOSE | re.ASCII)
-CLAUSE_HEAD = re.compile(r"\s+(?:[a-z_]\w*\s*)?(?=\{)")
+CLAUSE_HEAD = re.compile(r"\*?\s+(?:[a-z_]\w*\s*)?(?=\{)")
 GHOST_USE = re.compile(r" use (?:[^;\"\n]|\n(?!\n))*?;")
 GHOST_MEMBER = re.compile(r" [A-Za-z_]\w*(:| =) (?=\{)")
 # A comment for the prover, and statements under it that only read: a field, or a method of the table.
@@ -365,7 +365,7 @@ class File(Tokens):
             if before in (":", "+") and token.text == "Drop":  # every type of Rust satisfies this bound
                 self.cut(behind - 1, behind + 1)
             elif before in (":", "+", "<") and (depth > 1 or before != "<") and token.kind == "word":
-                self.uses.append((token.start, "a type", token.text))
+                self.uses.append((token.start, "a bound" if before in (":", "+") else "a type", token.text))
             elif token.kind == "word" and token.text not in ("_", "const"):
                 self.define(behind, self.generics)
             is_known = token.kind != "mark" or token.text in (",", ":", "+", "<", ">", ">>")
@@ -547,6 +547,9 @@ class File(Tokens):
             self.cut(index + 8, index + 14, "Self")
             self.cut(index + 15, index + 17)
             self.cut(end - 1, end)
+            for place in range(index + 17, end - 1):  # the clone of a field is the same
+                if self.at(place, "?"):
+                    self.cut(place, place + 1)
         if trait == "Debug":
             is_known = self.at(index + 3, "<", "W", ":", "Write", ">") and self.at(index + 17, "<", "W", ">")
             self.refuse_if(not is_known, "a 'fmt' of this form", index)
@@ -634,7 +637,8 @@ class File(Tokens):
         if kind == "a function":
             return name in NAMES or name in crate.functions or self.imported.get(head) in crate.stands_on
         of_tests = TRAITS | {"Drop"} if self.of_tests else ()  # the module `testing` has a trait `Drop`
-        return any(name in table for table in (NAMES, PRELUDE, NUMBERS, self.imported, of_tests))
+        bounds = TRAITS if kind == "a bound" else ()
+        return any(name in table for table in (NAMES, PRELUDE, NUMBERS, self.imported, of_tests, bounds))
 
     # ---- Output ----
 

@@ -26,6 +26,7 @@ CHANGED = [
     (r"\bstd::(cmp|fmt|mem|result)\b", r"core::\1"),
     (r"(fn fmt)<W: Write>(.*Formatter<)W>", r"\1\2'_>"),
     (r"(fn clone\(&self\) -> )Result<Self, AllocError>( \{\s+)Ok\(((?:.|\n)*?)\)(?=\s+\}\n\})", r"\1Self\2\3"),
+    (r"\.clone\(\)\?(?=,\n)", ".clone()"),
     (r"(trait \w+): Drop\b", r"\1: Sized"),
     (r"(?::| \+) Drop\b", ""),
     (r"(#\[derive\(.*?)(?:, )?\bDrop\b", r"\1"),

@@ -4,14 +4,15 @@
 use crate::handle::{found, Handle};
 use crate::lists::fill;
 use crate::objects::{calls, object_calls, visits};
-use crate::proved::vm_range_map::{RangeMap, ValuedRange};
+use crate::proved::vm_addresses::RangeInclusive;
+use crate::proved::vm_range_map::RangeMap;
 use crate::ranges::at_or_above;
 use crate::rattle::Global;
 use crate::requests::{answered, in_the_way, no_range, not_freed};
 use crate::{dvs_range, In};
 
 /// A map behind a C pointer.
-pub type dvs_range_map = Handle<RangeMap>;
+pub type dvs_range_map = Handle<RangeMap<u64>>;
 
 /// An allocated range and its value.
 #[repr(C)]
@@ -20,9 +21,9 @@ pub struct dvs_valued_range {
     value: u64,
 }
 
-impl From<ValuedRange> for dvs_valued_range {
-    fn from(ValuedRange { range, value }: ValuedRange) -> Self {
-        let range = range.into();
+impl From<(RangeInclusive, &u64)> for dvs_valued_range {
+    fn from((range, value): (RangeInclusive, &u64)) -> Self {
+        let (range, value) = (range.into(), *value);
         dvs_valued_range { range, value }
     }
 }
@@ -35,7 +36,7 @@ calls! {
     }
     changes dvs_range_map_allocate(map: In<dvs_range_map>, value: u64; request)
         -> range: dvs_range [refusal] {
-        let allocated = map.allocate_constraint(Global, request, value);
+        let allocated = map.allocate_constraint(Global, request, value).map_err(|refused| refused.error);
         let details = || no_range(request, map.addresses());
         answered(allocated, refusal.is_some(), details)?
     }
@@ -52,7 +53,7 @@ calls! {
         answered::<u64, u64>(freed, refusal.is_some(), || not_freed(map.addresses(), &range))?
     }
     changes dvs_range_map_set(map: In<dvs_range_map>, address: u64, value: u64) -> before: u64 {
-        found(map.set(address, value))?
+        found(map.set(address, value).ok())?
     }
     reads dvs_range_map_get(map: In<dvs_range_map>, address: u64) -> valued: dvs_valued_range {
         found(map.get(address))?
@@ -60,13 +61,13 @@ calls! {
     reads dvs_range_map_list(
         map: In<dvs_range_map>, from: u64, ranges: *mut dvs_valued_range, capacity: usize
     ) -> count: usize {
-        let held = map.addresses().held_ranges_in(&at_or_above(map.addresses(), from)?);
+        let held = map.held_ranges_in(&at_or_above(map.addresses(), from)?);
         // SAFETY: the array is as the header requires.
-        unsafe { fill(held.filter_map(|range| map.get(range.start())), ranges, capacity) }?
+        unsafe { fill(held, ranges, capacity) }?
     }
     reads dvs_range_map_count(map: In<dvs_range_map>) -> count: u64 { map.addresses().held_count() }
     reads dvs_range_map_space(map: In<dvs_range_map>) -> ends: dvs_range {
-        map.addresses().space().into()
+        map.space().into()
     }
 }
 

@@ -1,7 +1,13 @@
 pub mod Tables
+pub mod Indices
+pub mod Places
+pub mod HeldRanges
 pub mod MapStates
 pub mod MapCalls
 pub mod ValuedLists
+pub mod Pairs
+pub mod Windows
 pub mod EqualMaps
+pub mod Copies
 pub mod KeptValues
 pub mod MapsOnce

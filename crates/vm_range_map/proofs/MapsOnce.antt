@@ -6,7 +6,6 @@ use Rattle.vm_ranges.specs.declared.error.Error.{Error}
 use Rattle.vm_ranges.specs.declared.error.Error.TheVariants.{OutOfMemory}
 use Rattle.vm_addresses.proofs.Histories.MoveSteps.{moves_once}
 use Rattle.vm_addresses.proofs.Results.InMemory.{placed_once, made_once}
-use Rattle.vm_range_map.specs.declared.valued_range.ValuedRange.{ValuedRange}
 use Rattle.vm_range_map.specs.RangeMaps.{
   MapState,
   IsMapState,
@@ -23,107 +22,109 @@ use Rattle.vm_range_map.specs.RangeMaps.{
   MovesWith,
 }
 use Rattle.vm_range_map.specs.Laws.{MapsDecide}
-use Rattle.vm_range_map.proofs.KeptValues.{missed, one_at, one_value, at_its_addresses}
+use Rattle.vm_range_map.proofs.HeldRanges.{missed, one_at}
+use Rattle.vm_range_map.proofs.KeptValues.{one_value, at_its_addresses}
 
--- Creating a map has one result.
-made_map_once : (base size : ℕ) (answer other : Result MapState Error) → answer ≢ Err OutOfMemory → other ≢ Err OutOfMemory →
-    MakesMap base size answer → MakesMap base size other → answer ≡ other
-unfolding MakesMap
-made_map_once base size answer other p q a b =
-    a.2 ∙ ap without_values (made_once base size a.0 b.0 (λ e. p (a.2 ∙ ap without_values e)) (λ e. q (b.2 ∙ ap without_values e)) a.1 b.1) ∙ sym b.2
+module _ {X : Type 0} where
+  -- Creating a map has one result.
+  made_map_once : (base size : ℕ) (answer other : Result (MapState X) Error) → answer ≢ Err OutOfMemory → other ≢ Err OutOfMemory →
+      MakesMap base size answer → MakesMap base size other → answer ≡ other
+  unfolding MakesMap
+  made_map_once base size answer other p q a b =
+      a.2 ∙ ap without_values (made_once base size a.0 b.0 (λ e. p (a.2 ∙ ap without_values e)) (λ e. q (b.2 ∙ ap without_values e)) a.1 b.1) ∙ sym b.2
 
--- ---- Allocating
-module _ (old new later : MapState) (value : ℕ) (answer other : Result Range Error) (p : answer ≢ Err OutOfMemory)
-    (q : other ≢ Err OutOfMemory) where
-  gives_same : (given : Result Range Error) → GivesValue old value given answer new → GivesValue old value given other later →
-      (answer ≡ other) × (new ≡ later)
-  gives_same given a b = grind arith
+  -- ---- Allocating
+  module _ (old new later : MapState X) (value : X) (answer other : Result Range Error) (p : answer ≢ Err OutOfMemory)
+      (q : other ≢ Err OutOfMemory) where
+    gives_same : (given : Result Range Error) → GivesValue old value given answer new → GivesValue old value given other later →
+        (answer ≡ other) × (new ≡ later)
+    gives_same given a b = grind arith
 
-  -- The range gets its value once if it is allocated once.
-  gives_once : (given again : Result Range Error) → (given ≢ Err OutOfMemory → again ≢ Err OutOfMemory → given ≡ again) →
-      GivesValue old value given answer new → GivesValue old value again other later → (answer ≡ other) × (new ≡ later)
-  gives_once given again same a b =
-      let one = same (λ e. p (rw e at a).0) (λ e. q (rw e at b).0) in
-      gives_same again (rw one at a) b
+    -- The range gets its value once if it is allocated once.
+    gives_once : (given again : Result Range Error) → (given ≢ Err OutOfMemory → again ≢ Err OutOfMemory → given ≡ again) →
+        GivesValue old value given answer new → GivesValue old value again other later → (answer ≡ other) × (new ≡ later)
+    gives_once given again same a b =
+        let one = same (λ e. p (rw e at a).0) (λ e. q (rw e at b).0) in
+        gives_same again (rw one at a) b
 
--- An allocation has one result and one next state.
-allocated_once : (old new later : MapState) (request : Request) (value : ℕ) (answer other : Result Range Error) →
-    answer ≢ Err OutOfMemory → other ≢ Err OutOfMemory →
-    AllocatesWith old request value answer new → AllocatesWith old request value other later → (answer ≡ other) × (new ≡ later)
-unfolding AllocatesWith
-allocated_once old new later request value answer other p q a b =
-    gives_once old new later value answer other p q a.0 b.0 (λ x y. (placed_once old.space a.1 b.1 request a.0 b.0 x y a.2 b.2).0) a.3 b.3
+  -- An allocation has one result and one next state.
+  allocated_once : (old new later : MapState X) (request : Request) (value : X) (answer other : Result Range Error) →
+      answer ≢ Err OutOfMemory → other ≢ Err OutOfMemory →
+      AllocatesWith old request value answer new → AllocatesWith old request value other later → (answer ≡ other) × (new ≡ later)
+  unfolding AllocatesWith
+  allocated_once old new later request value answer other p q a b =
+      gives_once old new later value answer other p q a.0 b.0 (λ x y. (placed_once old.space a.1 b.1 request a.0 b.0 x y a.2 b.2).0) a.3 b.3
 
--- ---- Freeing
--- Freeing has one result and one next state.
-freed_once : (old new later : MapState) (r : Range) (answer other : Result ℕ Error) →
-    FreesWith old r answer new → FreesWith old r other later → (answer ≡ other) × (new ≡ later)
-unfolding FreesWith
-freed_once old new later r answer other (inl a) (inl b) =
-    let same = one_value old r r a.1.0 b.1.0 refl a.1.1 b.1.1 in
-    (a.1.2 ∙ ap (λ (v : ℕ). Ok v) same ∙ sym b.1.2, a.1.3 ∙ sym b.1.3)
-freed_once old new later r answer other (inl a) (inr b) = absurd (b.0 a.0)
-freed_once old new later r answer other (inr a) (inl b) = absurd (a.0 b.0)
-freed_once old new later r answer other (inr a) (inr b) = (a.1.0 ∙ sym b.1.0, a.1.1 ∙ sym b.1.1)
+  -- ---- Freeing
+  -- Freeing has one result and one next state.
+  freed_once : (old new later : MapState X) (r : Range) (answer other : Result X Error) →
+      FreesWith old r answer new → FreesWith old r other later → (answer ≡ other) × (new ≡ later)
+  unfolding FreesWith
+  freed_once old new later r answer other (inl a) (inl b) =
+      let same = one_value old r r a.1.0 b.1.0 refl a.1.1 b.1.1 in
+      (a.1.2 ∙ ap (λ (v : X). Ok v) same ∙ sym b.1.2, a.1.3 ∙ sym b.1.3)
+  freed_once old new later r answer other (inl a) (inr b) = absurd (b.0 a.0)
+  freed_once old new later r answer other (inr a) (inl b) = absurd (a.0 b.0)
+  freed_once old new later r answer other (inr a) (inr b) = (a.1.0 ∙ sym b.1.0, a.1.1 ∙ sym b.1.1)
 
--- ---- Moving
-moves_same : (old new later : MapState) (q : Range) (given answer other : Result Range Error) → answer ≢ Err OutOfMemory →
-    other ≢ Err OutOfMemory → MovesValue old q given answer new → MovesValue old q given other later → (answer ≡ other) × (new ≡ later)
-moves_same old new later q (Err e) answer other p s a b = (a.0 ∙ sym b.0, a.1 ∙ sym b.1)
-moves_same old new later q (Ok r) answer other p s (inl a) (inl b) =
-    let same = one_value old q q a.0 b.0 refl a.1 b.1 in
-    (a.2 ∙ sym b.2, a.3 ∙ ap (λ (v : ℕ). with_moved q r v old) same ∙ sym b.3)
-moves_same old new later q (Ok r) answer other p s (inl a) (inr b) = absurd (s b.1)
-moves_same old new later q (Ok r) answer other p s (inr a) b = absurd (p a.1)
+  -- ---- Moving
+  moves_same : (old new later : MapState X) (q : Range) (given answer other : Result Range Error) → answer ≢ Err OutOfMemory →
+      other ≢ Err OutOfMemory → MovesValue old q given answer new → MovesValue old q given other later → (answer ≡ other) × (new ≡ later)
+  moves_same old new later q (Err e) answer other p s a b = (a.0 ∙ sym b.0, a.1 ∙ sym b.1)
+  moves_same old new later q (Ok r) answer other p s (inl a) (inl b) =
+      let same = one_value old q q a.0 b.0 refl a.1 b.1 in
+      (a.2 ∙ sym b.2, a.3 ∙ ap (λ (v : X). with_moved q r v old) same ∙ sym b.3)
+  moves_same old new later q (Ok r) answer other p s (inl a) (inr b) = absurd (s b.1)
+  moves_same old new later q (Ok r) answer other p s (inr a) b = absurd (p a.1)
 
--- The value moves once if its range does.
-moves_value_once : (old new later : MapState) (q : Range) (given again answer other : Result Range Error) → answer ≢ Err OutOfMemory →
-    other ≢ Err OutOfMemory → (given ≡ again) ⊎ (given ≡ Err OutOfMemory) ⊎ (again ≡ Err OutOfMemory) →
-    MovesValue old q given answer new → MovesValue old q again other later → (answer ≡ other) × (new ≡ later)
-moves_value_once old new later q given again answer other p s (inl same) a b =
-    moves_same old new later q again answer other p s (subst (λ (v : Result Range Error). MovesValue old q v answer new) same a) b
-moves_value_once old new later q given again answer other p s (inr (inl e)) a b = absurd (p (rw e at a).0)
-moves_value_once old new later q given again answer other p s (inr (inr e)) a b = absurd (s (rw e at b).0)
+  -- The value moves once if its range does.
+  moves_value_once : (old new later : MapState X) (q : Range) (given again answer other : Result Range Error) → answer ≢ Err OutOfMemory →
+      other ≢ Err OutOfMemory → (given ≡ again) ⊎ (given ≡ Err OutOfMemory) ⊎ (again ≡ Err OutOfMemory) →
+      MovesValue old q given answer new → MovesValue old q again other later → (answer ≡ other) × (new ≡ later)
+  moves_value_once old new later q given again answer other p s (inl same) a b =
+      moves_same old new later q again answer other p s (subst (λ (v : Result Range Error). MovesValue old q v answer new) same a) b
+  moves_value_once old new later q given again answer other p s (inr (inl e)) a b = absurd (p (rw e at a).0)
+  moves_value_once old new later q given again answer other p s (inr (inr e)) a b = absurd (s (rw e at b).0)
 
--- A move has one result and one next state.
-moved_once : (old new later : MapState) (q : Range) (request : Request) (answer other : Result Range Error) →
-    answer ≢ Err OutOfMemory → other ≢ Err OutOfMemory →
-    MovesWith old q request answer new → MovesWith old q request other later → (answer ≡ other) × (new ≡ later)
-unfolding MovesWith
-moved_once old new later q request answer other p s a b =
-    moves_value_once old new later q a.0 b.0 answer other p s
-    (⊎_elim (λ k. inl k.0) (λ k. inr k) (moves_once old.space a.1 b.1 q request a.0 b.0 a.2 b.2)) a.3 b.3
+  -- A move has one result and one next state.
+  moved_once : (old new later : MapState X) (q : Range) (request : Request) (answer other : Result Range Error) →
+      answer ≢ Err OutOfMemory → other ≢ Err OutOfMemory →
+      MovesWith old q request answer new → MovesWith old q request other later → (answer ≡ other) × (new ≡ later)
+  unfolding MovesWith
+  moved_once old new later q request answer other p s a b =
+      moves_value_once old new later q a.0 b.0 answer other p s
+      (⊎_elim (λ k. inl k.0) (λ k. inr k) (moves_once old.space a.1 b.1 q request a.0 b.0 a.2 b.2)) a.3 b.3
 
--- ---- The value at an address
--- `get` has one result, because held ranges are disjoint.
-got_once : (state : MapState) (x : ℕ) (answer other : Option ValuedRange) → IsMapState state →
-    IsValueAt state x answer → IsValueAt state x other → answer ≡ other
-unfolding IsValueAt
-got_once state x None None i a b = refl
-got_once state x None (Some d) i a b = absurd (missed state.space d.range x b.0.0 b.1 a)
-got_once state x (Some c) other i a b = sym (at_its_addresses state c.range c.value x other i a.0 a.1 b)
+  -- ---- The value at an address
+  -- `get` has one result, because held ranges are disjoint.
+  got_once : (state : MapState X) (x : ℕ) (answer other : Option (Range × X)) → IsMapState state →
+      IsValueAt state x answer → IsValueAt state x other → answer ≡ other
+  unfolding IsValueAt
+  got_once state x None None i a b = refl
+  got_once state x None (Some d) i a b = absurd (missed state.space d.0 x b.0.0 b.1 a)
+  got_once state x (Some c) other i a b = sym (at_its_addresses state c.0 c.1 x other i a.0 a.1 b)
 
--- `set` has one result and one next state.
-set_once : (old new later : MapState) (x value : ℕ) (answer other : Option ℕ) → IsMapState old →
-    SetsValue old x value answer new → SetsValue old x value other later → (answer ≡ other) × (new ≡ later)
-unfolding SetsValue
-set_once old new later x value None None i a b = (refl, a.1 ∙ sym b.1)
-set_once old new later x value None (Some d) i a b = absurd (missed old.space b.0 x b.1.0 b.2 a.0)
-set_once old new later x value (Some c) None i a b = absurd (missed old.space a.0 x a.1.0 a.2 b.0)
-set_once old new later x value (Some c) (Some d) i a b =
-    let range : a.0 ≡ b.0 = one_at old.space i.space a.0 b.0 x a.1.0 b.1.0 a.2 b.2 in
-    let same = one_value old a.0 b.0 c d range a.1 b.1 in
-    (ap (λ (v : ℕ). Some v) same, a.3 ∙ ap (λ (v : Range). with_value v value old) range ∙ sym b.3)
+  -- `set` has one result and one next state.
+  set_once : (old new later : MapState X) (x : ℕ) (value : X) (answer other : Result X X) → IsMapState old →
+      SetsValue old x value answer new → SetsValue old x value other later → (answer ≡ other) × (new ≡ later)
+  unfolding SetsValue
+  set_once old new later x value (Err c) (Err d) i a b = (ap (λ (v : X). Err v) (a.1 ∙ sym b.1), a.2 ∙ sym b.2)
+  set_once old new later x value (Err c) (Ok d) i a b = absurd (missed old.space b.0 x b.1.0 b.2 a.0)
+  set_once old new later x value (Ok c) (Err d) i a b = absurd (missed old.space a.0 x a.1.0 a.2 b.0)
+  set_once old new later x value (Ok c) (Ok d) i a b =
+      let range : a.0 ≡ b.0 = one_at old.space i.space a.0 b.0 x a.1.0 b.1.0 a.2 b.2 in
+      let same = one_value old a.0 b.0 c d range a.1 b.1 in
+      (ap (λ (v : X). Ok v) same, a.3 ∙ ap (λ (v : Range). with_value v value old) range ∙ sym b.3)
 
--- Each call has one result and one next state, if memory suffices.
-pub maps_decide : MapsDecide
-maps_decide = record {
-  made = made_map_once;
-  allocated = allocated_once;
-  freed = freed_once;
-  moved = moved_once;
-  got = got_once;
-  set = set_once;
-}
+  -- Each call has one result and one next state, if memory suffices.
+  pub maps_decide : MapsDecide X
+  maps_decide = record {
+    made = made_map_once;
+    allocated = allocated_once;
+    freed = freed_once;
+    moved = moved_once;
+    got = got_once;
+    set = set_once;
+  }
 
 pub ruleset decides = (maps_decide)

@@ -1,35 +1,10 @@
--- Tables with numbers as keys, after one key is inserted or removed, and the list of values behind them.
-use Rattle.std.proofs.Common.{
-  ◌≡◌,
-  ◌≢◌,
-  ◌==◌,
-  ℕ,
-  Bool,
-  true,
-  false,
-  cond,
-  List,
-  [],
-  ◌∷◌,
-  nat_eq,
-  refl,
-  sym,
-  ap,
-  ◌∙◌,
-  arith,
-  Option,
-  Some,
-  None,
-  IsSome,
-  option_map,
-}
+-- Tables with numbers as keys, after one key is inserted or removed, and the table of a list of entries.
+use Rattle.std.proofs.Common.{◌≡◌, ◌≢◌, ◌==◌, ◌⊎◌, ℕ, Bool, true, false, cond, List, [], ◌∷◌, map as map_list, nat_eq, refl, ap, ◌∙◌, arith, Some, None, option_map}
 use Rattle.std.specs.Ordering.{nat_cmp}
 use Rattle.std.specs.Cmp.{nat_cmp_total, unsigned_tied}
 use Rattle.std.specs.FinMap as map
 use Rattle.vm_list.specs.Entries.{entry_at, with_entry, without}
 use Rattle.vm_list.proofs.EntryLaws.{entries_are_by_key}
-use Rattle.vm_range_map.specs.Checks.{values_of}
-use Rattle.vm_range_map.specs.declared.range_map.value_table.ValueAt.{ValueAt}
 
 module _ {X : Type 0} where
   -- The key that is inserted has the value, and the other keys have their former values.
@@ -43,78 +18,61 @@ module _ {X : Type 0} where
   pub with_here : (m : map.FinMap nat_cmp X) (k : ℕ) (v : X) → map.get (map.insert m k v) k ≡ Some v
   with_here m k v = let at = get_with m k v k in grind (arith, at)
 
+  pub with_other : (m : map.FinMap nat_cmp X) (k : ℕ) (v : X) (q : ℕ) → q ≢ k → map.get (map.insert m k v) q ≡ map.get m q
+  with_other m k v q n = let at = get_with m k v q in grind (arith, at, n)
+
+  pub without_here : (m : map.FinMap nat_cmp X) (k : ℕ) → map.get (map.remove m k) k ≡ None
+  without_here m k = let at = get_without m k k in grind (arith, at)
+
+  pub without_other : (m : map.FinMap nat_cmp X) (k q : ℕ) → q ≢ k → map.get (map.remove m k) q ≡ map.get m q
+  without_other m k q n = let at = get_without m k q in grind (arith, at, n)
+
   -- Tables with the same value at each key are equal.
   pub same_table : (m n : map.FinMap nat_cmp X) → ((q : ℕ) → map.get m q ≡ map.get n q) → m ≡ n
   same_table m n h = map.same_map nat_cmp_total map.nat_cmp-IsAntisymmetric m n h
 
--- ---- The table of a list of values
-abbrev pub key_of : ValueAt → ℕ
-key_of e = e.start
+-- ---- The table of a list of entries
+module _ {E X : Type 0} (key_of : E → ℕ) (value_of : E → X) where
+  -- The table has the value of each entry at its key.
+  abbrev pub table_of : List E → map.FinMap nat_cmp X
+  table_of es = map.from_entries (map_list (λ e. (key_of e, value_of e)) es)
 
-abbrev pub value_of : ValueAt → ℕ
-value_of e = e.value
+  -- The value of the first entry, if it is that of the key.
+  by_key : (e : E) (es : List E) (q : ℕ) (a b : Bool) → a ≡ b → map.get (table_of es) q ≡ option_map value_of (entry_at key_of q es) →
+      cond a (Some (value_of e)) (map.get (table_of es) q) ≡ option_map value_of (cond b (Some e) (entry_at key_of q es))
+  by_key e es q a true s h = rw s refl
+  by_key e es q a false s h = rw s h
 
--- The value of the first entry, if it is that of the start.
-by_start : (e : ValueAt) (es : List ValueAt) (q : ℕ) (a b : Bool) → a ≡ b → map.get (values_of es) q ≡ option_map value_of (entry_at key_of q es) →
-    cond a (Some e.value) (map.get (values_of es) q) ≡ option_map value_of (cond b (Some e) (entry_at key_of q es))
-by_start e es q a true s h = rw s refl
-by_start e es q a false s h = rw s h
+  -- The table has the value of the entry at each key.
+  pub got : (q : ℕ) (es : List E) → map.get (table_of es) q ≡ option_map value_of (entry_at key_of q es)
+  unfolding entry_at
+  got q [] = map.get-empty nat_cmp q
+  got q (e ∷ es) =
+      get_with (table_of es) (key_of e) (value_of e) q
+      ∙ by_key e es q (q == key_of e) (nat_eq (key_of e) q) (grind arith) (got q es)
 
--- The table has the value of the entry at each start.
-pub got : (q : ℕ) (es : List ValueAt) → map.get (values_of es) q ≡ option_map value_of (entry_at key_of q es)
-unfolding entry_at
-got q [] = map.get-empty nat_cmp q
-got q (e ∷ es) = get_with (values_of es) e.start e.value q ∙ by_start e es q (q == e.start) (nat_eq e.start q) (grind arith) (got q es)
+  -- An entry that is put into the list is inserted into the table.
+  pub put_table : (e : E) (es : List E) → table_of (with_entry key_of e es) ≡ map.insert (table_of es) (key_of e) (value_of e)
+  put_table e es =
+      same_table _ _ (λ q. grind (
+        arith,
+        got q (with_entry key_of e es),
+        got q es,
+        (entries_are_by_key key_of).put e es q,
+        get_with (table_of es) (key_of e) (value_of e) q,
+      ))
 
--- A start has a value if and only if the list has an entry there.
-pub got_some : (q : ℕ) (es : List ValueAt) → IsSome (map.get (values_of es) q) → IsSome (entry_at key_of q es)
-got_some q es h = some (entry_at key_of q es) (rw (← got q es) h)
-  where
-    some : (o : Option ValueAt) → IsSome (option_map value_of o) → IsSome o
-    some None i = i
-    some (Some e) i = i
+  -- A key that is taken out of the list is removed from the table.
+  pub taken_table : (k : ℕ) (es : List E) → table_of (without key_of k es) ≡ map.remove (table_of es) k
+  taken_table k es =
+      same_table _ _ (λ q. grind (arith, got q (without key_of k es), got q es, (entries_are_by_key key_of).taken k es q, get_without (table_of es) k q))
 
-pub got_none : (q : ℕ) (es : List ValueAt) → map.get (values_of es) q ≡ None → entry_at key_of q es ≡ None
-got_none q es h = none (entry_at key_of q es) (sym (got q es) ∙ h)
-  where
-    none : (o : Option ValueAt) → option_map value_of o ≡ None → o ≡ None
-    none None i = refl
-    none (Some e) i = absurd (cc (i))
-
--- An entry that is put into the list is inserted into the table.
-pub put_table : (e : ValueAt) (es : List ValueAt) → values_of (with_entry key_of e es) ≡ map.insert (values_of es) e.start e.value
-put_table e es =
-    same_table _ _ (λ q. grind (
-      arith,
-      got q (with_entry key_of e es),
-      got q es,
-      (entries_are_by_key key_of).put e es q,
-      get_with (values_of es) e.start e.value q,
-    ))
-
--- A start that is taken out of the list is removed from the table.
-pub taken_table : (k : ℕ) (es : List ValueAt) → values_of (without key_of k es) ≡ map.remove (values_of es) k
-taken_table k es =
-    same_table _ _ (λ q. grind (arith, got q (without key_of k es), got q es, (entries_are_by_key key_of).taken k es q, get_without (values_of es) k q))
-
--- ---- A value that moves
 -- A value that moves to the same start stays.
-pub moved_nowhere : (m : map.FinMap nat_cmp ℕ) (from to value : ℕ) → from ≡ to → map.get m from ≡ Some value →
+pub moved_nowhere : {X : Type 0} (m : map.FinMap nat_cmp X) (from to : ℕ) (value : X) → from ≡ to → map.get m from ≡ Some value →
     m ≡ map.insert (map.remove m from) to value
 moved_nowhere m from to value e h =
     same_table _ _ (λ q. grind (arith, e, h, get_with (map.remove m from) to value q, get_without m from q))
 
--- A value can be inserted at another start before it is removed.
-pub moved_after : (m : map.FinMap nat_cmp ℕ) (from to value : ℕ) → from ≢ to →
-    map.remove (map.insert m to value) from ≡ map.insert (map.remove m from) to value
-moved_after m from to value n =
-    same_table _ _ (λ q. grind (
-      arith,
-      n,
-      get_with (map.remove m from) to value q,
-      get_without m from q,
-      get_without (map.insert m to value) from q,
-      get_with m to value q,
-    ))
-
-pub ruleset tables = (got, got_some, got_none, put_table, taken_table)
+-- A key is this one, or another one.
+pub same_or_not : (a b : ℕ) → (a ≡ b) ⊎ (a ≢ b)
+same_or_not a b = grind arith

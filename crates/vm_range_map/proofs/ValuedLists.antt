@@ -1,4 +1,4 @@
--- The ranges of a map with their values as lists: the entries of the table are those of the held ranges, in order.
+-- The ranges of a map with their values as lists: the entries of the indices are those of the held ranges, in order.
 use Rattle.std.proofs.Common.{
   ◌≡◌,
   ◌≢◌,
@@ -35,7 +35,7 @@ use Rattle.std.proofs.Common.{
   Some,
   None,
 }
-use Rattle.std.proofs.lemmas.List.{map-append, reverse-append, length-append}
+use Rattle.std.proofs.lemmas.List.{map-append, reverse-append}
 use Rattle.std.specs.Option.{unwrap_or}
 use Rattle.std.specs.declared.cmp.Ordering.TheVariants.{Greater}
 use Rattle.std.specs.Ordering.{nat_cmp, is_lt}
@@ -47,38 +47,36 @@ use Rattle.vm_ranges.proofs.Items.{less}
 use Rattle.vm_ranges.specs.Address.{AreInOrder}
 use Rattle.vm_ranges.proofs.PlainWords.{IsHeld, contains_held, held_contains}
 use Rattle.vm_list.specs.Entries.{IsDescendingBy}
-use Rattle.vm_range_map.specs.declared.range_map.value_table.ValueAt.{ValueAt}
+use Rattle.vm_range_map.specs.declared.range_map.value_table.IndexAt.{IndexAt}
 use Rattle.vm_range_map.specs.RangeMaps.{MapState, IsMapState}
-use Rattle.vm_range_map.specs.Queries.{valued_in}
-use Rattle.vm_range_map.specs.Checks.{entry_of, values_of, pair_up}
-use Rattle.vm_range_map.proofs.Tables.{key_of}
+use Rattle.vm_range_map.specs.Checks.{start_of, entry_of, indices_of}
 use Rattle.vm_range_map.proofs.MapStates.{some_value, absent}
 
 -- ---- The entries of a descending list, in ascending order
 -- The starts of the entries are below k.
-abbrev AreBelow : ℕ → List ValueAt → Type 0
+abbrev AreBelow : ℕ → List IndexAt → Type 0
 AreBelow k [] = Unit {0}
 AreBelow k (e ∷ es) = (e.start < k) × AreBelow k es
 
-below_append : (k : ℕ) (xs ys : List ValueAt) → AreBelow k xs → AreBelow k ys → AreBelow k (xs ++ ys)
+below_append : (k : ℕ) (xs ys : List IndexAt) → AreBelow k xs → AreBelow k ys → AreBelow k (xs ++ ys)
 below_append k [] ys a b = b
 below_append k (x ∷ xs) ys a b = (a.0, below_append k xs ys a.1 b)
 
-reverse_cons : (x : ValueAt) (xs : List ValueAt) → reverse (x ∷ xs) ≡ reverse xs ++ x ∷ []
+reverse_cons : (x : IndexAt) (xs : List IndexAt) → reverse (x ∷ xs) ≡ reverse xs ++ x ∷ []
 reverse_cons x xs = reverse-append (x ∷ []) xs
 
-below_reverse : (k : ℕ) (xs : List ValueAt) → AreBelow k xs → AreBelow k (reverse xs)
+below_reverse : (k : ℕ) (xs : List IndexAt) → AreBelow k xs → AreBelow k (reverse xs)
 below_reverse k [] a = tt
 below_reverse k (x ∷ xs) a =
     subst (AreBelow k) (sym (reverse_cons x xs)) (below_append k (reverse xs) (x ∷ []) (below_reverse k xs a.1) (a.0, tt))
 
 -- Entries whose starts are below k one by one are below k.
-below_each : (k : ℕ) (xs : List ValueAt) → ((j : ℕ) (d : ValueAt) → j < length xs → (get_or xs j d).start < k) → AreBelow k xs
+below_each : (k : ℕ) (xs : List IndexAt) → ((j : ℕ) (d : IndexAt) → j < length xs → (get_or xs j d).start < k) → AreBelow k xs
 below_each k [] h = tt
 below_each k (x ∷ xs) h = (h 0 x (omega arith), below_each k xs (λ j d l. h (suc j) d (omega (arith, l))))
 
 -- A key above all others is put at the end.
-put_last : (k v : ℕ) (xs : List ValueAt) → AreBelow k xs → put nat_cmp k v (map_list entry_of xs) ≡ map_list entry_of xs ++ (k, v) ∷ []
+put_last : (k v : ℕ) (xs : List IndexAt) → AreBelow k xs → put nat_cmp k v (map_list entry_of xs) ≡ map_list entry_of xs ++ (k, v) ∷ []
 put_last k v [] a = refl
 put_last k v (x ∷ xs) a =
     let above : Greater ≡ nat_cmp k x.start = nat_cmp_is k x.start Greater a.0 in
@@ -92,14 +90,14 @@ no_entries : map.entries (map.empty {X = ℕ} {R = nat_cmp}) ≡ []
 no_entries = empty_list _ (sym (map.len-entries (map.empty {X = ℕ} {R = nat_cmp})) ∙ map.len-empty nat_cmp ℕ)
 
 -- The entries of the table of a descending list are those of the list, in ascending order.
-pub entries_listed : (xs : List ValueAt) → IsDescendingBy key_of xs → map.entries (values_of xs) ≡ map_list entry_of (reverse xs)
+pub entries_listed : (xs : List IndexAt) → IsDescendingBy start_of xs → map.entries (indices_of xs) ≡ map_list entry_of (reverse xs)
 entries_listed [] down = no_entries
 entries_listed (x ∷ xs) down =
     let rest = entries_listed xs (λ i j d l w. down (suc i) (suc j) d (omega (arith, l)) (omega (arith, w))) in
     let below = below_each x.start xs (λ j d l. down 0 (suc j) d (omega arith) (omega (arith, l))) in
-    map.entries-insert nat_cmp_total (values_of xs) x.start x.value
-    ∙ ap (put nat_cmp x.start x.value) rest
-    ∙ put_last x.start x.value (reverse xs) (below_reverse x.start xs below)
+    map.entries-insert nat_cmp_total (indices_of xs) x.start x.index
+    ∙ ap (put nat_cmp x.start x.index) rest
+    ∙ put_last x.start x.index (reverse xs) (below_reverse x.start xs below)
     ∙ sym (ap (map_list entry_of) (reverse_cons x xs) ∙ map-append entry_of (reverse xs) (x ∷ []))
 
 pub ruleset listed = (entries_listed)
@@ -152,7 +150,7 @@ module _ (values : map.FinMap nat_cmp ℕ) where
       (first_or_later r rs q _ (same_or_not q r.start) (found_held rs q))
 
 -- The table has the value of each held range, and no other value.
-got_held : (state : MapState) → IsMapState state → (q : ℕ) →
+got_held : (state : MapState ℕ) → IsMapState state → (q : ℕ) →
     find nat_cmp q (map_list (pair_in state.values) state.space.held) ≡ map.get state.values q
 got_held state i q =
     ⊎_elim
@@ -164,46 +162,8 @@ got_held state i q =
     (found_held state.values state.space.held q)
 
 -- The entries of the table are those of the held ranges, in order.
-pub entries_held : (state : MapState) → IsMapState state → map.entries state.values ≡ map_list (pair_in state.values) state.space.held
+pub entries_held : (state : MapState ℕ) → IsMapState state → map.entries state.values ≡ map_list (pair_in state.values) state.space.held
 entries_held state i =
     sym (same_entries nat_cmp nat_cmp_total map.nat_cmp-IsAntisymmetric _ (map.entries state.values)
     (starts_rise state.values state.space.space.start state.space.space.end state.space.held i.space.in_order) (map.entries_sorted state.values)
     (λ q. got_held state i q ∙ map.get-entries state.values q))
-
--- ---- Ranges and entries in pairs
--- There are as many pairs as ranges.
-pub pair_long : (rs : List Range) (es : List ValueAt) → length rs ≡ length es → length (pair_up rs es) ≡ length rs
-pair_long [] es l = refl
-pair_long (r ∷ rs) [] l = absurd (omega (arith, l))
-pair_long (r ∷ rs) (e ∷ es) l = let n = pair_long rs es (omega (arith, l)) in omega (arith, n)
-
--- The last pair is that of the last range and the last entry.
-pub pair_last : (rs : List Range) (es : List ValueAt) (r : Range) (e : ValueAt) → length rs ≡ length es →
-    pair_up (rs ++ r ∷ []) (es ++ e ∷ []) ≡ pair_up rs es ++ record { range = r; value = e.value } ∷ []
-pair_last [] [] r e l = refl
-pair_last [] (f ∷ es) r e l = absurd (omega (arith, l))
-pair_last (q ∷ rs) [] r e l = absurd (omega (arith, l))
-pair_last (q ∷ rs) (f ∷ es) r e l = ap (λ vs. record { range = q; value = f.value } ∷ vs) (pair_last rs es r e (omega (arith, l)))
-
--- The last pair of two lists whose last items were taken.
-pub pair_back : (all rs : List Range) (every es : List ValueAt) (r : Range) (e : ValueAt) → length all ≡ length every →
-    all ≡ rs ++ r ∷ [] → every ≡ es ++ e ∷ [] → pair_up all every ≡ pair_up rs es ++ record { range = r; value = e.value } ∷ []
-pair_back all rs every es r e l s t =
-    let k = ap (λ (xs : List Range). length xs) s ∙ length-append rs (r ∷ []) in
-    let m = ap (λ (xs : List ValueAt). length xs) t ∙ length-append es (e ∷ []) in
-    ap (λ (xs : List Range). pair_up xs every) s ∙ ap (pair_up (rs ++ r ∷ [])) t ∙ pair_last rs es r e (omega (arith, k, m, l))
-
-pub ruleset pair_lists = (pair_long, pair_last)
-
--- If the entries are those of the ranges, each range has its value.
-pub pairs_valued : (values : map.FinMap nat_cmp ℕ) (rs : List Range) (es : List ValueAt) → map_list entry_of es ≡ map_list (pair_in values) rs →
-    (length rs ≡ length es) × (pair_up rs es ≡ map_list (valued_in values) rs)
-pairs_valued values [] [] h = (refl, refl)
-pairs_valued values [] (e ∷ es) h = absurd (cc (h))
-pairs_valued values (r ∷ rs) [] h = absurd (cc (h))
-pairs_valued values (r ∷ rs) (e ∷ es) h =
-    let first : e.value ≡ unwrap_or (map.get values r.start) 0 = grind (arith, h) in
-    let rest = pairs_valued values rs es (cc (h)) in (
-      omega (arith, rest.0),
-      rw (first, rest.1) refl,
-    )

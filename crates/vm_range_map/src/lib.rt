@@ -1,5 +1,5 @@
 //! A map from allocated ranges to values. Each allocated range of addresses has a value of its caller, such as
-//! the number of the owner or of a device on a bus.
+//! the number of the owner or the device on a bus.
 //!
 //! # How a map is stated
 //!
@@ -10,13 +10,16 @@
 //! # What is proved
 //!
 //! - The exact result of each call, and each error except out of memory under its condition
-//!   (`AllocatesWith`, `FreesWith`, `MovesWith`). An error leaves the same ranges with the same values.
+//!   (`AllocatesWith`, `FreesWith`, `MovesWith`). An error leaves the same ranges with the same values, and that of
+//!   an allocation returns the value.
 //! - Ranges are allocated, moved and freed as by `AddressAllocator`.
-//! - A range has the value of its allocation or of the last `set`, also after it moves and while other ranges
+//! - A range has the value of its allocation, or that was written last, also after it moves and while other ranges
 //!   change.
 //! - The result of a call depends only on the space, the allocated ranges and their values, unless memory runs
 //!   out.
-//! - An iterator returns each range once, with its value, in order, from both ends.
+//! - An iterator returns each range once, with its value, in order, from both ends, also if only the ranges in a window
+//!   are asked for.
+//! - A copy has the same space and the same ranges, each with a clone of its value.
 //!
 //! # What is only tested
 //!
@@ -28,7 +31,7 @@
 
 mod laws;
 mod range_map;
-mod valued_range;
+mod refused;
 
-pub use range_map::{RangeMap, ValuedRanges};
-pub use valued_range::ValuedRange;
+pub use range_map::{RangeMap, ValuedRanges, ValuedRangesIn};
+pub use refused::Refused;

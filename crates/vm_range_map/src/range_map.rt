@@ -2,8 +2,10 @@
 //!
 //! Ranges and values change together or not at all. Calls that can fail are first. The calls after them, and the
 //! call that undoes an allocation, always succeed.
-ghost use Rattle.std.specs.Prelude.{◌≡◌, IfOk, OnErr, OnOk};
-ghost use Rattle.vm_ranges.specs.Cloning.{Clones};
+ghost use Rattle.std.specs.Prelude.{◌≡◌, IfErr, IfNone, IfOk, IfSome, OnErr, option_map};
+ghost use Rattle.std.specs.Borrow.{sem};
+ghost use Rattle.vm_ranges.specs.Range.{Range, IsIn, IsInNone};
+ghost use Rattle.vm_ranges.specs.declared.error.Error.TheVariants.{OutOfMemory};
 ghost use Rattle.vm_range_map.specs.RangeMaps.{
   IsMapState,
   MakesMap,
@@ -11,13 +13,14 @@ ghost use Rattle.vm_range_map.specs.RangeMaps.{
   IsValueAt,
   SetsValue,
   HasValue,
+  AreCopies,
   without_range,
 };
 ghost use Rattle.vm_range_map.specs.Trees.{map_state, made_map};
 
-use crate::valued_range::ValuedRange;
 use std::alloc::Global;
 use std::marker::Model;
+use std::mem;
 use vm_addresses::{AddressAllocator, RangeInclusive, Result};
 
 mod allocating;
@@ -25,36 +28,40 @@ mod comparing;
 mod iter;
 mod moving;
 mod value_table;
+mod windows;
 
 pub use self::iter::ValuedRanges;
 use self::value_table::ValueTable;
+pub use self::windows::ValuedRangesIn;
 
 /// Allocates ranges of addresses from one space, and keeps a value with each allocated range.
 ///
-/// Ranges are allocated as by [`AddressAllocator`]. A value is any number of the caller, such as the number of the
+/// Ranges are allocated as by [`AddressAllocator`]. A value is any value of the caller, such as the number of the
 /// owner of the range.
 #[derive(Drop)]
-pub struct RangeMap {
+pub struct RangeMap<T> {
     addresses: AddressAllocator,
     // The value of each allocated range, by its start.
-    values: ValueTable,
+    values: ValueTable<T>,
 }
 
-impl Model for RangeMap {
+impl<T> Model for RangeMap<T> {
     ghost use Rattle.vm_addresses.specs.Allocator.{state_of};
     ghost use Rattle.vm_range_map.specs.RangeMaps.{map_of, IsMapState};
     ghost use Rattle.vm_range_map.specs.Trees.{RangeMapInTree, range_map_code};
 
-    ghost Value = { RangeMapInTree };
+    ghost Value = { RangeMapInTree T };
 
-    ghost coded = { range_map_code };
+    ghost coded = { range_map_code T.code };
 
     ghost view = { λ m. record { addresses = m.addresses; values = m.values } };
 
     ghost invariant = { λ m. IsMapState (map_of (state_of m.addresses) m.values) };
 }
 
-impl RangeMap {
+impl<T: Drop> RangeMap<T> {
+    ghost use Rattle.vm_range_map.specs.MapLends.{lends_value};
+
     /// Creates a map of the `size` addresses starting at `base`. All of them are free.
     ///
     /// # Errors
@@ -71,22 +78,8 @@ impl RangeMap {
         let addresses = AddressAllocator::new(alloc, base, size)?;
         Ok(RangeMap {
             addresses,
-            values: ValueTable::new(),
+            values: ValueTable::new(alloc),
         })
-    }
-
-    /// Returns a copy. It has the same tree of addresses and the same values.
-    ///
-    /// # Errors
-    ///
-    /// - `OutOfMemory` if an allocation fails.
-    pub fn try_clone(&self, alloc: Global) -> Result<Self>
-        ensures answer { Clones (map_state self.now) (made_map result) }
-        ensures same { Clones self.now result }
-    {
-        let addresses = self.addresses.try_clone(alloc)?;
-        let values = self.values.try_clone(alloc)?;
-        Ok(RangeMap { addresses, values })
     }
 
     /// Frees an allocated range, and returns its value.
@@ -99,7 +92,7 @@ impl RangeMap {
     /// - `ResourceNotAvailable` if exactly this range is not allocated. A part of an allocated range cannot be
     ///   freed.
     #[tactic(auto, using(crate::proofs::MapCalls::free_refused))]
-    pub fn free(&mut self, range: &RangeInclusive) -> Result<u64>
+    pub fn free(&mut self, range: &RangeInclusive) -> Result<T>
         // The range had this value. It is freed, and nothing else changes.
         ensures freed { IfOk result (λ value. HasValue (map_state self.old) range.now value
             × (map_state self.new ≡ without_range range.now (map_state self.old))) }
@@ -122,28 +115,53 @@ impl RangeMap {
     ///
     /// It descends one path of the tree, looks the value up by the start of the range, and does not allocate.
     #[tactic(auto, using(crate::proofs::MapCalls::values))]
-    pub fn get(&self, address: u64) -> Option<ValuedRange>
-        ensures { IsValueAt (map_state self.now) address result }
+    pub fn get(&self, address: u64) -> Option<(RangeInclusive, &T)>
+        ensures { IsValueAt (map_state self.now) address (option_map (λ found. (found.0, found.1.now)) result) }
     {
         let range = self.addresses.held_at(address)?;
         let value = self.values.get(range.start())?;
-        Some(ValuedRange { range, value })
+        Some((range, value))
     }
 
-    /// Replaces the value of the allocated range that contains an address, and returns the value before. Returns
-    /// `None` if the address is free or outside the space, and changes nothing then.
+    /// Returns the value of the allocated range that contains an address, to change it, or `None` if the address is
+    /// free or outside the space.
+    ///
+    /// It takes as long as [`get`](Self::get), and does not allocate.
+    pub fn get_mut(&mut self, address: u64) -> Option<&mut T>
+        // The range has the value that is written last through the result, and nothing else changes.
+        ensures* writes_back { sem 𝓛 (lends_value T.row self.entry address result) }
+        ensures value { IfSome result (λ value. (r : Range) × HasValue (map_state self.old) r value.now × IsIn r address) }
+        ensures none { IfNone result (IsInNone (map_state self.old).space.held address) }
+    {
+        let range = self.addresses.held_at(address)?;
+        Some(self.values.value_mut(range.start()))
+    }
+
+    /// Replaces the value of the allocated range that contains an address, and returns the value before.
     ///
     /// It does not allocate.
-    #[tactic(auto, using(crate::proofs::MapCalls::values))]
-    pub fn set(&mut self, address: u64, value: u64) -> Option<u64>
+    ///
+    /// # Errors
+    ///
+    /// If the address is free or outside the space, it returns the given value and changes nothing.
+    pub fn set(&mut self, address: u64, value: T) -> std::result::Result<T, T>
         ensures answer { SetsValue (map_state self.old) address value result (map_state self.new) }
         ensures tree { self.new.addresses ≡ self.old.addresses }
         ensures state { IsMapState (map_state self.new) }
     {
-        let range = self.addresses.held_at(address)?;
-        let before = self.values.get(range.start())?;
-        self.values.set(range.start(), value);
-        Some(before)
+        // Proof: this shows that the map is valid.
+        let _addresses = &self.addresses;
+        match self.get_mut(address) {
+            Some(place) => Ok(mem::replace(place, value)),
+            None => Err(value),
+        }
+    }
+
+    /// Returns the range of all addresses of the space.
+    pub fn space(&self) -> RangeInclusive
+        ensures { result ≡ (map_state self.now).space.space }
+    {
+        self.addresses.space()
     }
 
     /// Returns the allocator of the addresses, to read.
@@ -151,5 +169,22 @@ impl RangeMap {
         ensures { result.now ≡ self.now.addresses }
     {
         &self.addresses
+    }
+}
+
+impl<T: Clone> RangeMap<T> {
+    /// Returns a copy. It has the same tree of addresses, and a clone of each value.
+    ///
+    /// # Errors
+    ///
+    /// - `OutOfMemory` if an allocation fails.
+    pub fn try_clone(&self, alloc: Global) -> Result<Self>
+        ensures addresses { IfOk result (λ copy. copy.addresses ≡ self.now.addresses) }
+        ensures values { IfOk result (λ copy. AreCopies T.is_clone self.now.values copy.values) }
+        ensures refused { IfErr result (λ e. e ≡ OutOfMemory) }
+    {
+        let addresses = self.addresses.try_clone(alloc)?;
+        let values = self.values.try_clone(alloc)?;
+        Ok(RangeMap { addresses, values })
     }
 }

@@ -1081,7 +1081,7 @@ impl AddressAllocator {
 }
 
 /// Returns the part of a window in a space, or an address outside the space if there is none.
-fn part_of(space: RangeInclusive, window: impl Window) -> RangeInclusive {
+pub(crate) fn part_of(space: RangeInclusive, window: impl Window) -> RangeInclusive {
     let (low, high) = window.limits();
     let part = RangeInclusive::new(low.max(space.start()), high.min(space.end()));
     let outside = space.end().wrapping_add(1);
@@ -1167,7 +1167,7 @@ pub struct HeldRangesIn<'a>(proved::RangesIn<'a>);
 ///
 /// It is created by [`gaps`](AddressAllocator::gaps).
 #[derive(Clone)]
-pub struct Gaps<'a>(proved::Ranges<'a>);
+pub struct Gaps<'a>(pub(crate) proved::Ranges<'a>);
 
 /// An iterator over the gaps of an [`AddressAllocator`] that have an address in common with a
 /// range, in ascending order or from both ends.

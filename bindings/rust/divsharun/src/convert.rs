@@ -5,9 +5,9 @@
 //! unless it is the only one. Such a conversion is an impl of `Into` for the proved type instead.
 #![allow(clippy::from_over_into)]
 
-use crate::proved::{vm_addresses as proved, vm_devices};
+use crate::proved::{vm_addresses as proved, vm_devices, vm_range_map};
 use crate::TryError;
-use crate::{AddressAllocator, Conflict, DeviceSlot, Error, ListError, RangeInclusive};
+use crate::{AddressAllocator, Conflict, DeviceSlot, Error, ListError, RangeInclusive, ValueError};
 
 /// Implements the conversions between the errors of callers and those of the proved code, which have the same
 /// variants. Only the proved code has `OutOfMemory`: the process then ends, as with Rust's collections.
@@ -89,6 +89,14 @@ impl From<proved::Error> for TryError {
             proved::Error::OutOfMemory => TryError::OutOfMemory,
             refused => TryError::Refused(refused.into()),
         }
+    }
+}
+
+#[diagnostic::do_not_recommend]
+impl<T, E: From<proved::Error>> From<vm_range_map::Refused<T>> for ValueError<T, E> {
+    fn from(refused: vm_range_map::Refused<T>) -> Self {
+        let (error, value) = (refused.error.into(), refused.value);
+        ValueError { error, value }
     }
 }
 

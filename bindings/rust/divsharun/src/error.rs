@@ -79,6 +79,10 @@ pub(crate) type TryResult<T> = core::result::Result<T, TryError>;
 pub(crate) type ListResult<T> = core::result::Result<T, ListError>;
 pub(crate) type TryListResult<T> = core::result::Result<T, ListError<TryError>>;
 
+/// The results of calls that allocate a range for a value.
+pub(crate) type ValueResult<T> = core::result::Result<RangeInclusive, ValueError<T>>;
+pub(crate) type TryValueResult<T> = core::result::Result<RangeInclusive, ValueError<T, TryError>>;
+
 /// The error of a call with the prefix `try_`. A call that returns an error leaves the same ranges and
 /// ids allocated.
 ///
@@ -239,5 +243,54 @@ impl From<ListError> for Error {
 impl<E: Into<TryError>> From<ListError<E>> for TryError {
     fn from(failure: ListError<E>) -> TryError {
         failure.error.into()
+    }
+}
+
+/// The error of a call that was given a value. It returns the value.
+///
+/// `E` is [`TryError`] for a call with the prefix `try_`. The operator `?` converts it to its error, and
+/// drops the value. `Display` writes that error, so it has no `source`.
+///
+/// # Example
+///
+/// ```rust
+/// use divsharun::{AllocPolicy, Error, RangeMap};
+///
+/// let mut bus = RangeMap::new(0xd000_0000, 0x1000)?;
+/// let disk = bus.allocate(0x1000, 0x1000, AllocPolicy::FirstMatch, "disk")?;
+/// let refused = bus.allocate(0x1000, 0x1000, AllocPolicy::FirstMatch, "net").unwrap_err();
+/// assert_eq!(refused.error, Error::ResourceNotAvailable);
+/// assert_eq!(refused.to_string(), "The requested resource is not available.");
+///
+/// bus.free(&disk)?;
+/// bus.allocate(0x1000, 0x1000, AllocPolicy::FirstMatch, refused.value)?;
+/// assert_eq!(bus.get(0xd000_0000), Some((disk, &"net")));
+/// # Ok::<(), Error>(())
+/// ```
+#[derive(Copy, Clone, PartialEq, Eq, PartialOrd, Ord, Hash, Debug)]
+pub struct ValueError<T, E = Error> {
+    /// The error.
+    pub error: E,
+    /// The value that the call was given.
+    pub value: T,
+}
+
+impl<T, E: fmt::Display> fmt::Display for ValueError<T, E> {
+    fn fmt(&self, f: &mut fmt::Formatter<'_>) -> fmt::Result {
+        self.error.fmt(f)
+    }
+}
+
+impl<T: fmt::Debug, E: core::error::Error> core::error::Error for ValueError<T, E> {}
+
+impl<T> From<ValueError<T>> for Error {
+    fn from(refused: ValueError<T>) -> Error {
+        refused.error
+    }
+}
+
+impl<T, E: Into<TryError>> From<ValueError<T, E>> for TryError {
+    fn from(refused: ValueError<T, E>) -> TryError {
+        refused.error.into()
     }
 }

@@ -124,7 +124,6 @@
 //! repository lists what is trusted. These parts are written by hand and tested:
 //!
 //! - the private module `rattle`, which replaces Rattle's library;
-//! - the list of the values of a [`RangeMap`], whose indexes the proved map keeps with the ranges;
 //! - conversions, [`layout`](AddressAllocator::layout) with its picture,
 //!   [`contains_address`](RangeInclusive::contains_address),
 //!   [`intersection`](RangeInclusive::intersection) and texts;
@@ -244,13 +243,13 @@ pub use address_allocator::{AddressAllocator, Gaps, GapsIn, HeldRanges, HeldRang
 pub use conflict::Conflict;
 pub use constraint::{Constraint, Window};
 pub use device_manager::{DeviceManager, DeviceSlot, Devices};
-pub use error::{Error, ListError, Result, TryError};
+pub use error::{Error, ListError, Result, TryError, ValueError};
 pub use id_allocator::{HeldIds, IdAllocator};
 pub use layout::{Block, Blocks, Layout};
 pub use proved::vm_ids::IdRequest;
 pub use proved::vm_ranges::{AllocPolicy, NodeState, DEFAULT_CONSTRAINT_ALIGN};
 pub use range::{ParseRangeError, RangeInclusive};
-pub use range_map::{RangeMap, ValuedRanges};
+pub use range_map::{RangeMap, ValuedRanges, ValuedRangesIn};
 #[cfg(feature = "serde")]
 pub use saved::{Saved, Strict};
 

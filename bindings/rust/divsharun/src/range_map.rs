@@ -1,10 +1,10 @@
 // SPDX-License-Identifier: Apache-2.0 OR BSD-3-Clause
-use crate::error::TryResult;
-use crate::proved::vm_addresses::{self, RangeInclusive as Range};
+use crate::address_allocator::part_of;
+use crate::error::{TryResult, TryValueResult, ValueResult};
 use crate::proved::vm_range_map as proved;
-use crate::rattle::{Global, Vec};
+use crate::rattle::Global;
 use crate::traits::{allocator, iterate, twins, DebugList};
-use crate::{AllocPolicy, Constraint, RangeInclusive, Result};
+use crate::{AllocPolicy, Conflict, Constraint, Gaps, RangeInclusive, Result, Window};
 use core::fmt;
 
 /// Allocates ranges of addresses from one space, and keeps a value with each allocated range, such as
@@ -32,18 +32,7 @@ use core::fmt;
 /// assert_eq!(bus.free(&disk), Err(Error::ResourceNotAvailable));
 /// # Ok::<(), Error>(())
 /// ```
-///
-/// # What is proved
-///
-/// The ranges, the errors and the number that is kept with each range are proved. This number is the index
-/// of its value in a list. The list is written by hand and tested: it keeps the values and the starts of
-/// their ranges, and its last value takes the index of one that is removed.
-pub struct RangeMap<T> {
-    // The value with each range is an index of `values`.
-    ranges: proved::RangeMap,
-    // Each value, after the start of its range.
-    values: Vec<(u64, T)>,
-}
+pub struct RangeMap<T>(proved::RangeMap<T>);
 
 impl<T> RangeMap<T> {
     twins! {
@@ -66,8 +55,7 @@ impl<T> RangeMap<T> {
         /// # Ok::<(), Error>(())
         /// ```
         pub fn new(base: u64, size: u64) -> Result<Self> {
-            let (ranges, values) = (proved::RangeMap::new(Global, base, size)?, Vec::new(Global));
-            Ok(RangeMap { ranges, values })
+            Ok(RangeMap(proved::RangeMap::new(Global, base, size)?))
         }
 
         /// # Example
@@ -89,7 +77,7 @@ impl<T> RangeMap<T> {
         ///
         /// # Errors
         ///
-        /// An error drops `value` and changes nothing else.
+        /// An error returns `value` and changes nothing.
         /// - `InvalidSize`, `InvalidAlignment`, `UnalignedAddress`, `Overflow`, `ResourceNotAvailable` or
         ///   `InvalidStateTransition`, as for
         ///   [`AddressAllocator::allocate`](crate::AddressAllocator::allocate).
@@ -104,7 +92,8 @@ impl<T> RangeMap<T> {
         /// assert_eq!(frames.start(), 0xc000_0000);
         ///
         /// let exact = AllocPolicy::ExactMatch(frames.start());
-        /// assert_eq!(bus.allocate(0x1000, 0x1000, exact, "net"), Err(Error::ResourceNotAvailable));
+        /// let refused = bus.allocate(0x1000, 0x1000, exact, "net").unwrap_err();
+        /// assert_eq!((refused.error, refused.value), (Error::ResourceNotAvailable, "net"));
         /// assert_eq!(bus.get(frames.start()), Some((frames, &"frames")));
         /// # Ok::<(), Error>(())
         /// ```
@@ -115,20 +104,18 @@ impl<T> RangeMap<T> {
             alignment: u64,
             policy: AllocPolicy,
             value: T,
-        ) -> Result<RangeInclusive> {
-            let index = self.values.len() as u64;
-            let range = self.ranges.allocate(Global, size, alignment, policy, index)?;
-            Ok(RangeInclusive(self.keep(range, value)?))
+        ) -> ValueResult<T> {
+            Ok(RangeInclusive(self.0.allocate(Global, size, alignment, policy, value)?))
         }
 
-        pub fn try_allocate -> TryResult;
+        pub fn try_allocate -> TryValueResult;
 
         /// Allocates a range like [`allocate`](Self::allocate), for a request that was made before. If the
         /// request has a [window](Constraint::within), the range lies in it.
         ///
         /// # Errors
         ///
-        /// An error drops `value` and changes nothing else.
+        /// An error returns `value` and changes nothing.
         /// - `Overflow`, `ResourceNotAvailable` or `InvalidStateTransition`, as for
         ///   [`AddressAllocator::allocate_constraint`](crate::AddressAllocator::allocate_constraint).
         ///
@@ -143,22 +130,11 @@ impl<T> RangeMap<T> {
         /// assert_eq!(disk.start(), 0xffff_f000);
         /// # Ok::<(), divsharun::Error>(())
         /// ```
-        pub fn allocate_constraint(&mut self, request: Constraint, value: T) -> Result<RangeInclusive> {
-            let index = self.values.len() as u64;
-            let range = self.ranges.allocate_constraint(Global, request.0, index)?;
-            Ok(RangeInclusive(self.keep(range, value)?))
+        pub fn allocate_constraint(&mut self, request: Constraint, value: T) -> ValueResult<T> {
+            Ok(RangeInclusive(self.0.allocate_constraint(Global, request.0, value)?))
         }
 
-        pub fn try_allocate_constraint -> TryResult;
-    }
-
-    /// Keeps the value of a range that is allocated. Without memory for it, the range is freed.
-    fn keep(&mut self, range: Range, value: T) -> vm_addresses::Result<Range> {
-        if let Err(failed) = self.values.push((range.start(), value)) {
-            let _ = self.ranges.free(&range);
-            return Err(failed.into());
-        }
-        Ok(range)
+        pub fn try_allocate_constraint -> TryValueResult;
     }
 
     twins! {
@@ -191,11 +167,7 @@ impl<T> RangeMap<T> {
             range: &RangeInclusive,
             request: Constraint,
         ) -> Result<RangeInclusive> {
-            let to = self.ranges.move_constraint(Global, &range.0, request.0)?;
-            if let Some(at) = self.ranges.get(to.start()) {
-                self.values[at.value as usize].0 = to.start();
-            }
-            Ok(RangeInclusive(to))
+            Ok(RangeInclusive(self.0.move_constraint(Global, &range.0, request.0)?))
         }
 
         pub fn try_move_constraint -> TryResult;
@@ -224,12 +196,7 @@ impl<T> RangeMap<T> {
     /// ```
     #[doc(alias("release", "remove"))]
     pub fn free(&mut self, range: &RangeInclusive) -> Result<T> {
-        let index = self.ranges.free(&range.0)?;
-        let (_, value) = self.values.swap_remove(index as usize);
-        if let Some((start, _)) = self.values.get(index as usize) {
-            self.ranges.set(*start, index);
-        }
-        Ok(value)
+        Ok(self.0.free(&range.0)?)
     }
 
     /// Returns the allocated range that contains an address, and its value, or `None` if the address is
@@ -251,8 +218,8 @@ impl<T> RangeMap<T> {
     #[doc(alias("find", "held_at"))]
     #[must_use]
     pub fn get(&self, address: u64) -> Option<(RangeInclusive, &T)> {
-        let at = self.ranges.get(address)?;
-        Some((RangeInclusive(at.range), &self.values[at.value as usize].1))
+        let (range, value) = self.0.get(address)?;
+        Some((RangeInclusive(range), value))
     }
 
     /// Returns the allocated range that contains an address, and its value to change it, or `None` if the
@@ -273,9 +240,9 @@ impl<T> RangeMap<T> {
     /// ```
     #[must_use]
     pub fn get_mut(&mut self, address: u64) -> Option<(RangeInclusive, &mut T)> {
-        let at = self.ranges.get(address)?;
-        let value = &mut self.values[at.value as usize].1;
-        Some((RangeInclusive(at.range), value))
+        let range = self.0.addresses().held_at(address)?;
+        let value = self.0.get_mut(range.start())?;
+        Some((RangeInclusive(range), value))
     }
 
     /// Returns an iterator over the allocated ranges with their values, in ascending order.
@@ -295,7 +262,99 @@ impl<T> RangeMap<T> {
     /// ```
     #[must_use]
     pub fn iter(&self) -> ValuedRanges<'_, T> {
-        ValuedRanges(self.ranges.iter(), &self.values)
+        ValuedRanges(self.0.iter())
+    }
+
+    /// Returns an iterator over the allocated ranges that have an address in common with a window, with
+    /// their values, in ascending order.
+    ///
+    /// The window is a range of `u64` or a [`RangeInclusive`]. Each range is returned whole. It walks one
+    /// path of the tree for each end of the window, looks each value up, and does not allocate.
+    ///
+    /// # Example
+    ///
+    /// ```rust
+    /// use divsharun::{AllocPolicy, RangeMap};
+    ///
+    /// let mut bus = RangeMap::new(0xd000_0000, 0x2ec0_0000)?;
+    /// let disk = bus.allocate(0x4000, 0x4000, AllocPolicy::FirstMatch, "disk")?;
+    /// let net = bus.allocate(0x4000, 0x4000, AllocPolicy::FirstMatch, "net")?;
+    /// assert!(bus.held_ranges_in(0xd000_3000..0xd000_8000).rev().eq([(net, &"net"), (disk, &"disk")]));
+    /// assert_eq!(bus.held_ranges_in(0xd000_8000..).next(), None);
+    /// # Ok::<(), divsharun::Error>(())
+    /// ```
+    #[must_use]
+    pub fn held_ranges_in(&self, window: impl Window) -> ValuedRangesIn<'_, T> {
+        ValuedRangesIn(self.0.held_ranges_in(&part_of(self.space(), window).0))
+    }
+
+    /// Returns an iterator over the gaps in ascending order, as by
+    /// [`AddressAllocator::gaps`](crate::AddressAllocator::gaps).
+    ///
+    /// # Example
+    ///
+    /// ```rust
+    /// use divsharun::{AllocPolicy, RangeMap};
+    ///
+    /// let mut ports = RangeMap::new(0, 0x100)?;
+    /// ports.allocate(0x10, 1, AllocPolicy::ExactMatch(0x40), "video")?;
+    /// let gaps: Vec<_> = ports.gaps().map(|gap| gap.to_string()).collect();
+    /// assert_eq!(gaps, ["0-3f", "50-ff"]);
+    /// # Ok::<(), divsharun::Error>(())
+    /// ```
+    #[doc(alias("free_ranges", "holes"))]
+    #[must_use]
+    pub fn gaps(&self) -> Gaps<'_> {
+        Gaps(self.0.addresses().gaps())
+    }
+
+    /// Returns the reason why the range of an `ExactMatch` request is not free, or `None` if it is free, as
+    /// by [`AddressAllocator::conflict`](crate::AddressAllocator::conflict).
+    ///
+    /// # Example
+    ///
+    /// ```rust
+    /// use divsharun::{AllocPolicy, Conflict, Constraint, RangeMap};
+    ///
+    /// let mut ports = RangeMap::new(0, 0x1_0000)?;
+    /// let serial = ports.allocate(8, 8, AllocPolicy::ExactMatch(0x3f8), "serial")?;
+    ///
+    /// let video = Constraint::new(0x30, 0x10, AllocPolicy::ExactMatch(0x3d0))?;
+    /// let refused = ports.allocate_constraint(video, "video").unwrap_err();
+    /// assert_eq!(ports.conflict(video), Some(Conflict::Allocated(serial)));
+    ///
+    /// ports.free(&serial)?;
+    /// assert_eq!(ports.conflict(video), None);
+    /// ports.allocate_constraint(video, refused.value)?;
+    /// # Ok::<(), divsharun::Error>(())
+    /// ```
+    #[must_use]
+    pub fn conflict(&self, request: Constraint) -> Option<Conflict> {
+        self.0.addresses().conflict(request.0).map(Into::into)
+    }
+
+    /// Returns the reason why the range of an `ExactMatch` request is not free if `range` is free, as by
+    /// [`AddressAllocator::move_conflict`](crate::AddressAllocator::move_conflict). So `range` is never the
+    /// reason. Returns `None` if exactly `range` is not allocated.
+    ///
+    /// # Example
+    ///
+    /// ```rust
+    /// use divsharun::{AllocPolicy, Conflict, Constraint, RangeMap};
+    ///
+    /// let mut bus = RangeMap::new(0xd000_0000, 0x1000_0000)?;
+    /// let bar = bus.allocate(0x4000, 0x4000, AllocPolicy::FirstMatch, "net")?;
+    /// let next = bus.allocate(0x4000, 0x4000, AllocPolicy::FirstMatch, "disk")?;
+    ///
+    /// let larger = Constraint::new(0x8000, 0x8000, AllocPolicy::ExactMatch(bar.start()))?;
+    /// assert!(bus.move_constraint(&bar, larger).is_err());
+    /// assert_eq!(bus.move_conflict(&bar, larger), Some(Conflict::Allocated(next)));
+    /// # Ok::<(), divsharun::Error>(())
+    /// ```
+    #[must_use]
+    pub fn move_conflict(&self, range: &RangeInclusive, request: Constraint) -> Option<Conflict> {
+        let conflict = self.0.addresses().move_conflict(&range.0, request.0);
+        conflict.map(Into::into)
     }
 
     /// Returns the number of allocated ranges in constant time.
@@ -313,7 +372,7 @@ impl<T> RangeMap<T> {
     #[doc(alias("is_empty", "len"))]
     #[must_use]
     pub fn held_count(&self) -> u64 {
-        self.ranges.addresses().held_count()
+        self.0.addresses().held_count()
     }
 
     /// Returns the space: the range of all addresses, free or allocated.
@@ -329,7 +388,7 @@ impl<T> RangeMap<T> {
     /// ```
     #[must_use]
     pub fn space(&self) -> RangeInclusive {
-        RangeInclusive(self.ranges.addresses().space())
+        RangeInclusive(self.0.space())
     }
 
     /// Returns a copy, or an error if memory runs out. A clone of a value that allocates memory can still
@@ -342,9 +401,7 @@ impl<T> RangeMap<T> {
     where
         T: Clone,
     {
-        let ranges = self.ranges.try_clone(Global)?;
-        let values = self.values.clone().map_err(vm_addresses::Error::from)?;
-        Ok(RangeMap { ranges, values })
+        Ok(RangeMap(self.0.try_clone(Global)?))
     }
 }
 
@@ -354,7 +411,7 @@ allocator! {
 
 impl<T: PartialEq> PartialEq for RangeMap<T> {
     fn eq(&self, other: &Self) -> bool {
-        self.space() == other.space() && self.iter().eq(other)
+        self.0 == other.0
     }
 }
 
@@ -374,17 +431,29 @@ impl<T: fmt::Debug> fmt::Debug for RangeMap<T> {
 /// both ends. Its length is exact.
 ///
 /// It is created by [`iter`](RangeMap::iter).
-pub struct ValuedRanges<'a, T>(proved::ValuedRanges<'a>, &'a [(u64, T)]);
+pub struct ValuedRanges<'a, T>(proved::ValuedRanges<'a, T>);
+
+/// An iterator over the allocated ranges of a [`RangeMap`] that have an address in common with a window,
+/// with their values, in ascending order or from both ends.
+///
+/// It is created by [`held_ranges_in`](RangeMap::held_ranges_in).
+pub struct ValuedRangesIn<'a, T>(proved::ValuedRangesIn<'a, T>);
 
 iterate! {
-    ValuedRanges<T>: (RangeInclusive, &'a T),
-    |ranges, at| (RangeInclusive(at.range), &ranges.1[at.value as usize].1)
+    ValuedRanges<T>, ValuedRangesIn<T>: (RangeInclusive, &'a T),
+    |_ranges, found| (RangeInclusive(found.0), found.1)
 }
 
 impl<T> ExactSizeIterator for ValuedRanges<'_, T> {}
 
 impl<T> Clone for ValuedRanges<'_, T> {
     fn clone(&self) -> Self {
-        ValuedRanges(self.0.clone(), self.1)
+        ValuedRanges(self.0.clone())
+    }
+}
+
+impl<T> Clone for ValuedRangesIn<'_, T> {
+    fn clone(&self) -> Self {
+        ValuedRangesIn(self.0.clone())
     }
 }

@@ -300,8 +300,19 @@ const OF_MANAGERS: [Calls<[DeviceManager; 2]>; 4] = [
 ];
 
 /// Every second address is allocated, with itself as its value.
-const OF_MAPS: [Calls<RangeMap<u64>>; 4] = [
+const OF_MAPS: [Calls<RangeMap<u64>>; 5] = [
     |map, at| map.get(at) == Some((one(at), &at)) && map.get_mut(at + 1).is_none(),
+    |map, at| {
+        let (near, last) = (
+            map.held_ranges_in(at..at + 2),
+            map.held_ranges_in(..).next_back(),
+        );
+        near.eq([(one(at), &at)])
+            && last.is_some()
+            && map.conflict(exact(at)).is_some()
+            && map.move_conflict(&one(at), exact(at + 1)).is_none()
+            && map.gaps().next_back().is_some()
+    },
     |map, at| map.held_count() > at / 2 && map.space().contains_address(at),
     |map, _| has_ends(map.iter(), is_counted),
     |map, at| {

@@ -10,7 +10,7 @@ mod refusing;
 use divsharun::AllocPolicy::{ExactMatch, FirstMatch, LastMatch};
 use divsharun::{Constraint, Error, RangeInclusive, RangeMap, TryError};
 use draw::Draw;
-use items::{exact, expect_items};
+use items::{exact, expect_items, inexact};
 use model::{refused, Model, WIDTH};
 use refusing::{blocks, refusing};
 use std::collections::BTreeMap;
@@ -63,11 +63,17 @@ impl Compared {
     fn allocate(&mut self, value: u64, fails: u64, draw: &mut Draw) {
         let asked = request(&self.ranges, draw);
         let (size, align, policy) = (asked.size(), asked.align(), asked.policy());
-        let answer = answered(fails, || match (fails, asked.window()) {
-            (0, None) => Ok(self.map.allocate(size, align, policy, value)?),
-            (0, Some(_)) => Ok(self.map.allocate_constraint(asked, value)?),
-            (_, None) => self.map.try_allocate(size, align, policy, value),
-            (_, Some(_)) => self.map.try_allocate_constraint(asked, value),
+        let answer = answered(fails, || {
+            let answer = match (fails, asked.window()) {
+                (0, None) => Ok(self.map.allocate(size, align, policy, value)?),
+                (0, Some(_)) => Ok(self.map.allocate_constraint(asked, value)?),
+                (_, None) => self.map.try_allocate(size, align, policy, value),
+                (_, Some(_)) => self.map.try_allocate_constraint(asked, value),
+            };
+            answer.map_err(|refused| {
+                assert_eq!(refused.value, value);
+                refused.error
+            })
         });
         if let Some(answer) = answer {
             assert_eq!(answer, self.ranges.allocate(asked));
@@ -112,9 +118,20 @@ impl Compared {
         let list: Vec<_> = self.values.iter().map(|(range, at)| (*range, at)).collect();
         assert!(self.map.iter().eq(list.iter().copied()));
         assert_eq!(self.map.held_count(), list.len() as u64);
+        let space = self.map.space();
+        let (low, high) = (
+            space.start() + draw.below(space.len()),
+            space.start() + draw.below(space.len()),
+        );
+        let window = RangeInclusive::new(low.min(high), low.max(high)).unwrap();
+        let inside = |(range, _): &(RangeInclusive, &u64)| range.overlaps(&window);
+        let within: Vec<_> = list.iter().copied().filter(inside).collect();
         if draw.below(20) == 0 {
             expect_items((&self.map).into_iter(), &list, exact, draw);
+            expect_items(self.map.held_ranges_in(window), &within, inexact, draw);
         }
+        assert!(self.map.held_ranges_in(window).eq(within));
+        assert_eq!(self.map.held_ranges_in(..).count(), list.len());
         for fails in 0..4 {
             let copy = answered(fails, || self.map.try_clone());
             copy.into_iter()
@@ -179,16 +196,18 @@ fn maps_are_equal_with_the_same_ranges_and_values() {
     assert_eq!(format!("{:?}", first.iter()), "ValuedRanges { .. }");
 }
 
-/// Checks that a value is dropped by the error of its allocation and with its map, and else returned.
+/// Checks that the error of an allocation returns the value, and that the map drops the values that it has.
 #[test]
 fn values_are_dropped_once() {
     let (value, before) = (Rc::new(7), blocks());
     let mut map = RangeMap::new(0, 4).unwrap();
     for number in 1..=4 {
         let allocated = map.allocate(1, 1, FirstMatch, value.clone());
-        assert_eq!(allocated.map(|range| range.start()), Ok(number - 1));
-        let refused = map.allocate(1, 3, FirstMatch, value.clone());
-        assert_eq!(refused, Err(Error::InvalidAlignment));
+        assert_eq!(allocated.unwrap().start(), number - 1);
+        let refused = map.allocate(1, 3, FirstMatch, value.clone()).unwrap_err();
+        assert_eq!(refused.error, Error::InvalidAlignment);
+        assert!(Rc::ptr_eq(&refused.value, &value));
+        drop(refused);
         assert_eq!(Rc::strong_count(&value) as u64, 1 + number);
     }
     let freed = map.free(&RangeInclusive::new(2, 2).unwrap());

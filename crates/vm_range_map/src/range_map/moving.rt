@@ -1,5 +1,5 @@
 //! The move of an allocated range to the place of a request. Its value moves too.
-ghost use Rattle.std.specs.Prelude.{◌≡◌, ℕ, ◌%◌, ◌⊎◌, OnErr, IfErr, IfOk, IfSome};
+ghost use Rattle.std.specs.Prelude.{◌≡◌, ◌%◌, ◌⊎◌, OnErr, IfErr, IfOk, IfSome};
 ghost use Rattle.vm_ranges.specs.Range.{Covers, address_count};
 ghost use Rattle.vm_ranges.specs.declared.error.Error.TheVariants.{OutOfMemory};
 ghost use Rattle.vm_range_map.specs.RangeMaps.{IsMapState, HasValue, MovesWith, with_moved};
@@ -9,7 +9,7 @@ use super::RangeMap;
 use std::alloc::Global;
 use vm_addresses::{Constraint, RangeInclusive, Result};
 
-impl RangeMap {
+impl<T: Drop> RangeMap<T> {
     /// Moves an allocated range to the place of a request, and returns the range there. It keeps its value.
     ///
     /// The range can overlap the one before, as by `AddressAllocator::move_constraint`.
@@ -30,7 +30,7 @@ impl RangeMap {
         ensures inside { IfOk result (λ to. IfSome request.window (λ window. Covers window to)) }
 
         // It is held instead, with the value of the range before, and nothing else changes.
-        ensures moved { IfOk result (λ to. (value : ℕ) × HasValue (map_state self.old) range.now value
+        ensures moved { IfOk result (λ to. (value : T) × HasValue (map_state self.old) range.now value
             × (map_state self.new ≡ with_moved range.now to value (map_state self.old))) }
         ensures unchanged { OnErr result (map_state self.new ≡ map_state self.old) }
         ensures same { IfErr result (λ e. (self.new ≡ self.old) ⊎ (e ≡ OutOfMemory)) }

@@ -1,10 +1,10 @@
 // Written by bindings/erase from crates/vm_range_map/src/lib.rt: do not edit.
 
 //! A map from allocated ranges to values. Each allocated range of addresses has a value of its caller, such as
-//! the number of the owner or of a device on a bus.
+//! the number of the owner or the device on a bus.
 
 mod range_map;
-mod valued_range;
+mod refused;
 
-pub use range_map::{RangeMap, ValuedRanges};
-pub use valued_range::ValuedRange;
+pub use range_map::{RangeMap, ValuedRanges, ValuedRangesIn};
+pub use refused::Refused;

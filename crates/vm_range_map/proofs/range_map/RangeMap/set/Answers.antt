@@ -1,25 +1,43 @@
--- Only the value of the range at the address changes. The prover does not replace the map by its parts in the facts on its state.
-use Rattle.std.proofs.Common.{sym, ap, ◌∙◌, subst}
-use Rattle.std.specs.FinMap as map
-use Rattle.vm_addresses.specs.Allocator.{state_of}
-use Rattle.vm_range_map.specs.RangeMaps.{MapState, IsMapState, map_of}
-use Rattle.vm_range_map.proofs.MapStates.{value_state}
-use Rattle.vm_range_map.proofs.MapCalls.{value_left, value_set}
+-- The value before is the one that was found, and only the value changes. The prover does not name the range of the value.
+use Rattle.std.proofs.Common.{◌≡◌, Option, Some, None, OnSome, ap, subst}
+use Rattle.vm_range_map.specs.RangeMaps.{IsMapState}
+use Rattle.vm_range_map.specs.Trees.{map_state}
+use Rattle.vm_range_map.specs.MapLends.{WritesAt}
+use Rattle.vm_range_map.proofs.MapCalls.{none_set, written_set, written_state, written_tree}
 use Rattle.vm_range_map.proofs.range_map.RangeMap.set.Goals as goal
 
-pub invariant_of-self : goal.invariant_of-self
-invariant_of-self c =
-    let old : MapState = map_of (state_of c.self.inside.addresses) c.self.inside.values in
-    subst IsMapState (sym (value_left old c.in_ok-range.range c.start-2.result c.args.value _ c.start-2.ensures.value c.set.ensures))
-    (value_state old c.self.invariant c.in_ok-range.range c.in_ok-range.ensures.0 c.args.value)
+-- A fact on a result holds if it is there.
+of_some : {A : Type 0} (o : Option A) (x : A) (P : Type 0) → o ≡ Some x → OnSome o P → P
+of_some None x P e h = absurd (cc (e))
+of_some (Some y) x P e h = h
 
-pub returns-clause-answer : goal.returns-clause-answer
-returns-clause-answer c =
-    let old : MapState = map_of (state_of c.self.inside.addresses) c.self.inside.values in
-    rw (← c.self.view_is)
-    (value_set old _ c.args.address c.args.value c.in_ok-range.range c.in_ok-before.before c.in_ok-range.ensures
-    (ap (λ x. map.get c.self.inside.values x) (sym c.start.ensures.value) ∙ sym c.in_ok-before.ensures)
-    (value_left old c.in_ok-range.range c.start-2.result c.args.value _ c.start-2.ensures.value c.set.ensures))
+-- The map after the value was written.
+wrote : (g : _) (c : goal.After-self-in-Some-1 g) → WritesAt c.args.self.now c.args.address c.args.value (c.get_mut.follows.lender c.replace.new.dest)
+wrote g c =
+    rw (← c.replace.ensures.after)
+    (of_some c.get_mut.result c.in-Some.place (WritesAt c.args.self.now c.args.address c.replace.new.dest (c.get_mut.follows.lender c.replace.new.dest))
+    c.in-Some.is (c.get_mut.follows.holds c.replace.new.dest))
 
-pub returns-clause-state : goal.returns-clause-state
-returns-clause-state c = invariant_of-self c
+valid : (g : _) (c : goal.After-self-in-Some-1 g) → IsMapState (map_state c.args.self.now)
+valid g c = subst (λ m. IsMapState (map_state m)) c.self.view_is c.self.invariant
+
+pub returns-in-Some-clause-answer : goal.returns-in-Some-clause-answer
+returns-in-Some-clause-answer g c =
+    rw c.replace.ensures.value
+    (written_set c.args.self.now _ c.args.address c.args.value c.in-Some.place.now (valid g c) (wrote g c) c.in-Some.ensures.value)
+
+pub returns-in-Some-clause-tree : goal.returns-in-Some-clause-tree
+returns-in-Some-clause-tree g c =
+    written_tree c.args.self.now _ c.args.address c.args.value c.in-Some.place.now (valid g c) (wrote g c) c.in-Some.ensures.value
+
+pub returns-in-Some-clause-state : goal.returns-in-Some-clause-state
+returns-in-Some-clause-state g c =
+    written_state c.args.self.now _ c.args.address c.args.value c.in-Some.place.now (valid g c) (wrote g c) c.in-Some.ensures.value
+
+pub returns-in-None-clause-answer : goal.returns-in-None-clause-answer
+returns-in-None-clause-answer g c =
+    none_set (map_state c.args.self.now) _ c.args.address c.args.value c.in-None.ensures.none (ap (λ m. map_state m) c.get_mut.follows.holds-at-none)
+
+pub returns-in-None-clause-state : goal.returns-in-None-clause-state
+returns-in-None-clause-state g c =
+    rw c.get_mut.follows.holds-at-none (subst (λ m. IsMapState (map_state m)) c.self.view_is c.self.invariant)

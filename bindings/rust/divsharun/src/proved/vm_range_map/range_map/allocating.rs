@@ -3,10 +3,12 @@
 //! Allocations: a range for a request, with a value.
 
 use super::RangeMap;
-use crate::proved::vm_addresses::{AllocPolicy, Constraint, RangeInclusive, Result};
+use crate::proved::vm_addresses::{AllocPolicy, Constraint, Error, RangeInclusive};
+use crate::proved::vm_range_map::refused::Refused;
 use crate::rattle::Global;
+use core::result::Result;
 
-impl RangeMap {
+impl<T> RangeMap<T> {
     /// Allocates `size` free addresses that start at a multiple of `alignment`, and returns their range. The range
     /// gets the value.
     ///
@@ -14,7 +16,8 @@ impl RangeMap {
     ///
     /// # Errors
     ///
-    /// An error leaves ranges and values unchanged, and each error but the last one the same tree. In this order:
+    /// An error returns the value. It leaves ranges and values unchanged, and each error but the last one the same
+    /// tree. In this order:
     /// - The errors of `AddressAllocator::allocate`, in the order of its documentation.
     /// - `OutOfMemory` if an allocation for the values fails. The range is freed again, and the tree of
     ///   [`addresses`](Self::addresses) can have another shape. Then its height and its later counts can differ.
@@ -24,10 +27,12 @@ impl RangeMap {
         size: u64,
         alignment: u64,
         policy: AllocPolicy,
-        value: u64,
-    ) -> Result<RangeInclusive> {
-        let request = Constraint::new(size, alignment, policy)?;
-        self.allocate_constraint(alloc, request, value)
+        value: T,
+    ) -> Result<RangeInclusive, Refused<T>> {
+        match Constraint::new(size, alignment, policy) {
+            Ok(request) => self.allocate_constraint(alloc, request, value),
+            Err(error) => Err(Refused { error, value }),
+        }
     }
 
     /// Allocates a range like [`allocate`](Self::allocate), for a request that was made before. If the request has
@@ -35,7 +40,8 @@ impl RangeMap {
     ///
     /// # Errors
     ///
-    /// An error leaves ranges and values unchanged, and each error but the last one the same tree. In this order:
+    /// An error returns the value. It leaves ranges and values unchanged, and each error but the last one the same
+    /// tree. In this order:
     /// - The errors of `AddressAllocator::allocate_constraint`, in the order of its documentation.
     /// - `OutOfMemory` if an allocation for the values fails. The range is freed again, as by
     ///   [`allocate`](Self::allocate).
@@ -43,13 +49,19 @@ impl RangeMap {
         &mut self,
         alloc: Global,
         request: Constraint,
-        value: u64,
-    ) -> Result<RangeInclusive> {
-        let range = self.addresses.allocate_constraint(alloc, request)?;
+        value: T,
+    ) -> Result<RangeInclusive, Refused<T>> {
+        let range = match self.addresses.allocate_constraint(alloc, request) {
+            Ok(range) => range,
+            Err(error) => return Err(Refused { error, value }),
+        };
         if let Err(refused) = self.values.insert(alloc, range.start(), value) {
             // Freeing an allocated range always succeeds.
             let _ = self.addresses.free(&range);
-            return Err(refused.into());
+            return Err(Refused {
+                error: Error::OutOfMemory,
+                value: refused.value,
+            });
         }
         Ok(range)
     }

@@ -4,20 +4,13 @@
 
 use super::RangeMap;
 
-impl PartialEq for RangeMap {
-    /// Returns `true` if both maps have the same space and the same allocated ranges with the same values.
+impl<T: PartialEq> PartialEq for RangeMap<T> {
+    /// Returns `true` if both maps have the same space and the same allocated ranges with equal values.
     ///
     /// It stops at the first difference and does not allocate.
-    fn eq(&self, other: &RangeMap) -> bool {
-        self.has_space_of(other) && self.iter().eq(other.iter())
+    fn eq(&self, other: &RangeMap<T>) -> bool {
+        self.addresses == other.addresses && self.iter().eq(other.iter())
     }
 }
 
-impl Eq for RangeMap {}
-
-impl RangeMap {
-    /// Returns `true` if both maps have equal allocators.
-    fn has_space_of(&self, other: &RangeMap) -> bool {
-        self.addresses == other.addresses
-    }
-}
+impl<T: Eq> Eq for RangeMap<T> {}

@@ -6,7 +6,7 @@ use super::RangeMap;
 use crate::proved::vm_addresses::{Constraint, RangeInclusive, Result};
 use crate::rattle::Global;
 
-impl RangeMap {
+impl<T> RangeMap<T> {
     /// Moves an allocated range to the place of a request, and returns the range there. It keeps its value.
     ///
     /// The range can overlap the one before, as by `AddressAllocator::move_constraint`.

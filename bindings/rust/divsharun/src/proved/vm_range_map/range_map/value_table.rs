@@ -1,18 +1,29 @@
 // Written by bindings/erase from crates/vm_range_map/src/range_map/value_table.rt: do not edit.
 
 //! The values of the allocated ranges, by the starts of the ranges.
+//!
+//! The values are in a list, in no order, each with the start of its range. A list of entries in the order of the
+//! starts has the index of each value. The last value takes the index of one that is removed.
 
 use crate::proved::vm_list::{Iter, Keyed, KeyedList};
-use crate::rattle::{AllocError, Global};
+use crate::rattle::Vec;
+use crate::rattle::{AllocError, AllocFailed, Global};
 
 /// A value, and the start of its range.
-#[derive(Clone, Copy)]
-pub(super) struct ValueAt {
+#[derive(Clone)]
+pub(super) struct ValueAt<T> {
     pub(super) start: u64,
-    pub(super) value: u64,
+    pub(super) value: T,
 }
 
-impl Keyed for ValueAt {
+/// The index of a value, and the start of its range.
+#[derive(Clone, Copy)]
+pub(super) struct IndexAt {
+    pub(super) start: u64,
+    pub(super) index: usize,
+}
+
+impl Keyed for IndexAt {
     /// Returns the start of the range.
     fn key(&self) -> u64 {
         self.start
@@ -22,50 +33,71 @@ impl Keyed for ValueAt {
 /// The value of each allocated range by the start of the range.
 ///
 /// Its model is the map from starts to values.
-pub(super) struct ValueTable {
-    entries: KeyedList<ValueAt>,
+pub(super) struct ValueTable<T> {
+    indices: KeyedList<IndexAt>,
+    values: Vec<ValueAt<T>>,
 }
 
-impl ValueTable {
+/// Writes the index of the item there into its entry, unless the index is past the end.
+fn renumber<T>(indices: &mut KeyedList<IndexAt>, values: &[ValueAt<T>], index: usize) {
+    if let Some(moved) = values.get(index) {
+        indices.set(IndexAt {
+            start: moved.start,
+            index,
+        });
+    }
+}
+
+impl<T> ValueTable<T> {
     /// Creates a table without values. It does not allocate.
-    pub(super) fn new() -> ValueTable {
+    pub(super) fn new(alloc: Global) -> ValueTable<T> {
         ValueTable {
-            entries: KeyedList::new(),
+            indices: KeyedList::new(),
+            values: Vec::new(alloc),
         }
     }
 
-    /// Returns a copy.
-    pub(super) fn try_clone(&self, alloc: Global) -> Result<ValueTable, AllocError> {
-        let entries = self.entries.try_clone(alloc)?;
-        Ok(ValueTable { entries })
-    }
-
     /// Returns the value at a start, or `None` if there is none.
-    pub(super) fn get(&self, start: u64) -> Option<u64> {
-        let entry = self.entries.get(start)?;
-        Some(entry.value)
+    pub(super) fn get(&self, start: u64) -> Option<&T> {
+        let entry = self.indices.get(start)?;
+        Some(&self.values[entry.index].value)
     }
 
-    /// Replaces the value at a start. It does not allocate.
-    pub(super) fn set(&mut self, start: u64, value: u64) {
-        self.entries.set(ValueAt { start, value });
+    /// Returns the value at a start, to change it.
+    pub(super) fn value_mut(&mut self, start: u64) -> &mut T {
+        let Some(entry) = self.indices.get(start) else {
+            unreachable!()
+        };
+        let index = entry.index;
+        &mut self.values[index].value
     }
 
-    /// Inserts a value at a new start. An error changes nothing.
+    /// Inserts a value at a new start. An error changes nothing, and returns the value.
     pub(super) fn insert(
         &mut self,
         alloc: Global,
         start: u64,
-        value: u64,
-    ) -> Result<(), AllocError> {
-        self.entries.insert(alloc, ValueAt { start, value })?;
-        Ok(())
+        value: T,
+    ) -> Result<(), AllocFailed<T>> {
+        let index = self.values.len();
+        if let Err(AllocFailed { value }) = self.values.push(ValueAt { start, value }) {
+            return Err(AllocFailed { value: value.value });
+        }
+        if self.indices.insert(alloc, IndexAt { start, index }).is_ok() {
+            return Ok(());
+        }
+        let Some(ValueAt { value, .. }) = self.values.pop() else {
+            unreachable!()
+        };
+        Err(AllocFailed { value })
     }
 
     /// Removes the value at a start, and returns it. It does not allocate.
-    pub(super) fn remove(&mut self, start: u64) -> Option<u64> {
-        let entry = self.entries.remove(start)?;
-        Some(entry.value)
+    pub(super) fn remove(&mut self, start: u64) -> Option<T> {
+        let index = self.indices.remove(start)?.index;
+        let ValueAt { value, .. } = self.values.swap_remove(index);
+        renumber(&mut self.indices, &self.values, index);
+        Some(value)
     }
 
     /// Moves the value at a start to another start, where there is none, or to the same start. An error changes
@@ -74,16 +106,27 @@ impl ValueTable {
         if from == to {
             return Ok(());
         }
-        let Some(value) = self.get(from) else {
+        let Some(entry) = self.indices.get(from) else {
             unreachable!()
         };
-        self.insert(alloc, to, value)?;
-        self.remove(from);
+        let index = entry.index;
+        self.indices.insert(alloc, IndexAt { start: to, index })?;
+        self.indices.remove(from);
+        self.values[index].start = to;
         Ok(())
     }
 
-    /// Returns an iterator over the values, by ascending starts.
-    pub(super) fn iter(&self) -> Iter<'_, ValueAt> {
-        self.entries.iter()
+    /// Returns the entries by ascending starts, and the values at their indices.
+    pub(super) fn iter(&self) -> (Iter<'_, IndexAt>, &[ValueAt<T>]) {
+        (self.indices.iter(), &self.values)
+    }
+}
+
+impl<T: Clone> ValueTable<T> {
+    /// Returns a copy, with copies of the values.
+    pub(super) fn try_clone(&self, alloc: Global) -> Result<ValueTable<T>, AllocError> {
+        let indices = self.indices.try_clone(alloc)?;
+        let values = self.values.clone()?;
+        Ok(ValueTable { indices, values })
     }
 }

@@ -1,26 +1,31 @@
--- Equal spaces and equal lists of ranges and values are equal maps. The lemma on lists takes a function, which the prover does not find.
-use Rattle.std.proofs.Common.{ap, refl, arith}
-use Rattle.std.proofs.lemmas.Bool.{both_ways}
-use Rattle.vm_addresses.proofs.Comparing.Items.{same_items}
-use Rattle.vm_range_map.specs.RangeMaps.{MapState}
+-- The iterators return the same pairs. The prover does not compare two lists item by item.
+use Rattle.std.proofs.Common.{◌&&◌, Bool, Bor, eqb, ap, ◌∙◌}
+use Rattle.std.specs.Ordering.{eq_by_cmp}
+use Rattle.std.specs.Cmp.Lexicographic.{pointwise}
+use Rattle.vm_ranges.specs.Range.{Range}
+use Rattle.vm_space.specs.Shape.{Shape}
+use Rattle.vm_addresses.specs.Allocator.{state_of}
+use Rattle.vm_addresses.specs.Comparison.{state_cmp}
 use Rattle.vm_range_map.specs.Trees.{map_state}
-use Rattle.vm_range_map.proofs.EqualMaps.{tested, tested_by_order}
+use Rattle.vm_range_map.specs.Queries.{valued_ranges, same_valued}
+use Rattle.vm_range_map.proofs.EqualMaps.{ends_tied, maps_compared, pairs_compared}
 use Rattle.vm_range_map.proofs.range_map.comparing.RangeMapPartialEq.eq.Goals as goal
 
-pub returns-then-has_space_of-clause-equal : goal.returns-then-has_space_of-clause-equal
-returns-then-has_space_of-clause-equal c =
-    tested (map_state c.args.self.now) (map_state c.args.other.now) c.eq.result c.has_space_of.ensures.valid.0
-    c.has_space_of.ensures.valid.1 (c.if-has_space_of.ensures.same.0 refl)
-    (rw (← c.iter.ensures, ← c.iter-then-has_space_of.ensures) (same_items _ (λ x y. grind arith) _ _ _ c.eq.ensures.ran))
-
-pub returns-then-has_space_of-clause-order : goal.returns-then-has_space_of-clause-order
-returns-then-has_space_of-clause-order c =
-    tested_by_order _ _ c.eq.result
-    (returns-then-has_space_of-clause-equal c)
-
-pub returns-else-has_space_of-clause-order : goal.returns-else-has_space_of-clause-order
-returns-else-has_space_of-clause-order c =
-    tested_by_order _ _ c.has_space_of.result (
-      λ t. absurd (both_ways _ c.if-has_space_of.false t),
-      λ e. c.has_space_of.ensures.same.1 (ap (λ (v : MapState). v.space) e),
-    )
+pub returns-then-eq : goal.returns-then-eq
+returns-then-eq g c =
+    let view : Range × Bor g.row.T.Denot → Range × g.row.T.Denot = λ found. (found.0, found.1.now) in
+    let equal : Range × Bor g.row.T.Denot → Range × Bor g.row.T.Denot → Bool =
+    λ x y. (eqb x.0.start y.0.start && eqb x.0.end y.0.end) && g.T.PartialEq.eq x.1.now y.1.now in
+    let same = same_valued g.T.PartialEq.eq in
+    let listed =
+    pairs_compared view equal same (λ x y. ap (λ b. b && g.T.PartialEq.eq x.1.now y.1.now) (ends_tied x.0 y.0)) c.eq-then-eq.result
+    c.iter.result c.iter-then-eq.result c.eq-then-eq.ensures.ran in
+    let first = ap (λ m. m.addresses) c.self.view_is in
+    let other = ap (λ m. m.addresses) c.other.view_is in
+    maps_compared g.T.PartialEq.eq (map_state c.args.self.now) (map_state c.args.other.now) c.eq-then-eq.result
+    (c.if-eq.ensures.order
+    ∙ ap (λ (s : Shape). eq_by_cmp state_cmp (state_of s) (state_of c.other.inside.addresses)) first
+    ∙ ap (λ (s : Shape). eq_by_cmp state_cmp (state_of c.args.self.now.addresses) (state_of s)) other)
+    (listed
+    ∙ ap (λ l. pointwise same l c.iter-then-eq.result) c.iter.ensures
+    ∙ ap (λ l. pointwise same (valued_ranges (map_state c.args.self.now)) l) c.iter-then-eq.ensures)
