@@ -453,7 +453,7 @@ fn map(count: u64) -> RangeMap<u64> {
 // An alignment can make the search for a range visit more gaps. A walk within a range takes time of
 // the order of log k, plus the number of ranges and gaps in it. Calls on one id, device or range of a
 // map take logarithmic time, also if they skip ids. If a call makes the list of freed ids, of devices
-// or of values longer, it can also move the list, in linear time. Counts, ends, `height` and
+// or of values longer, it can also move the list, in linear time. Counts, ends and
 // `longest_gap` take constant time."
 #[test]
 fn calls_do_not_go_through_all_items() {
