@@ -935,9 +935,8 @@ static clock_t time_quick(const struct quick *row, void *object, uint64_t count)
 }
 
 /* divsharun.h: "Calls on one id, device or range of a map take logarithmic time too, also if they
- * skip ids. If such a call makes the list of freed ids, of devices or of values longer, it can
- * also move the list, in linear time. Counts, dvs_longest_gap() and the ends of a space or of a
- * range of ids take constant time." */
+ * skip ids. An allocation in a map can also move its values, in linear time. Counts,
+ * dvs_longest_gap() and the ends of a space or of a range of ids take constant time." */
 
 /* divsharun.h: "Let k be the number of allocated ranges. Allocating, moving and freeing a range
  * takes time of the order of log k, and so do dvs_range_conflict(), dvs_range_is_allocated(),

@@ -76,10 +76,10 @@
 //! order of log k, and so do `conflict`, `move_conflict`, `holds`, `held_at` and `gap_at`. An alignment can make the
 //! search for a range visit more gaps. A walk within a range takes time of the order of log k, plus the
 //! number of ranges and gaps in it. Calls on one id, device or range of a map take logarithmic time, also
-//! if they skip ids. If a call makes the list of freed ids, of devices or of values longer, it can also move
-//! the list, in linear time. Counts, ends and `longest_gap` take constant time. `height` and `last` of
-//! an iterator take logarithmic time, and `count` of an iterator with an exact length constant time. Other
-//! calls of allocators, managers and maps take at most linear time.
+//! if they skip ids. An allocation in a map can also move its values, in linear time. Counts, ends and
+//! `longest_gap` take constant time. `height` and `last` of an iterator take logarithmic time, and `count` of
+//! an iterator with an exact length constant time. Other calls of allocators, managers and maps take at most
+//! linear time.
 //!
 //! The allocated ranges and gaps are in leaves of 280 bytes, with 12 to 32 of them in each leaf. A tree that
 //! is one leaf can have fewer. Other trees have inner nodes of 528 bytes, with 5 to 16 children each, and at

@@ -452,9 +452,8 @@ fn map(count: u64) -> RangeMap<u64> {
 // time of the order of log k, and so do `conflict`, `move_conflict`, `holds`, `held_at` and `gap_at`.
 // An alignment can make the search for a range visit more gaps. A walk within a range takes time of
 // the order of log k, plus the number of ranges and gaps in it. Calls on one id, device or range of a
-// map take logarithmic time, also if they skip ids. If a call makes the list of freed ids, of devices
-// or of values longer, it can also move the list, in linear time. Counts, ends and
-// `longest_gap` take constant time."
+// map take logarithmic time, also if they skip ids. An allocation in a map can also move its values, in
+// linear time. Counts, ends and `longest_gap` take constant time."
 #[test]
 fn calls_do_not_go_through_all_items() {
     expect_quick(space, &OF_SPACES, 2);
