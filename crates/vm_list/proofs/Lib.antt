@@ -22,3 +22,4 @@ pub mod RunTops
 pub mod Pops
 pub mod Walks
 pub mod Rising
+mod Alones

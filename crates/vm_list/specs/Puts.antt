@@ -5,7 +5,7 @@ use Rattle.std.specs.Option.{IsSome}
 use Rattle.vm_list.specs.Entries.{below, with_entry, without, entry_at, IsDescendingBy}
 use Rattle.vm_list.specs.Leaves.{items_of}
 use Rattle.vm_list.specs.declared.id_set.Run.{Run}
-use Rattle.vm_list.specs.Runs.{TakesLowest}
+use Rattle.vm_list.specs.Runs.{TakesLowest, IsAlone, last_of, one_id}
 
 module _ {X : Type 0} (key : X → ℕ) where
   -- The entry was put, and `old` is the one that had its key.
@@ -60,3 +60,14 @@ pub record IsLowered {X : Type 0} (key : X → ℕ) (t : ℕ) (entry : Option X)
 -- The entry with the key t cannot be replaced.
 abbrev pub IsNotLowered : {X : Type 0} → (X → ℕ) → ℕ → Option X → List X → Type 0
 IsNotLowered {X} key t entry c = (e : X) → entry ≡ Some e → CanLower key t e c → ⊥
+
+-- An id that is next to no run of the leaf was added as a run.
+pub record IsAddedAlone (id : ℕ) (c : List Run) (cs : List (List Run)) : Type 0 where
+  pub alone : IsAlone id c
+  pub put : IsPut last_of (Some (one_id id)) None None c cs
+
+-- An id is next to no run of the leaf, which has no room.
+pub record IsCrowdedAlone (id : ℕ) (c : List Run) : Type 0 where
+  pub alone : IsAlone id c
+  pub new : entry_at last_of id c ≡ None
+  pub full : 64 ≤ length c

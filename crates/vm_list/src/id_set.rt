@@ -250,6 +250,19 @@ fn add(runs: &mut KeyedList<Run>, alloc: Global, id: u32) -> Result<bool, AllocE
     ensures lacks { OnErr result (LacksId id (at_or_above last_of id runs.old)) }
     ensures unchanged { OnErr result (runs.new ≡ runs.old) }
 {
+    if runs.add_alone(alloc, id)? {
+        return Ok(true);
+    }
+    add_beside(runs, alloc, id)
+}
+
+/// Adds an id that can be next to a run, as [`add`] does.
+fn add_beside(runs: &mut KeyedList<Run>, alloc: Global, id: u32) -> Result<bool, AllocError>
+    requires { AreRuns RUNS_END runs.old }
+    ensures added { IfOk result (λ is_new. AddsId id is_new runs.old runs.new) }
+    ensures lacks { OnErr result (LacksId id (at_or_above last_of id runs.old)) }
+    ensures unchanged { OnErr result (runs.new ≡ runs.old) }
+{
     let above = run_from(runs, id);
     let below = run_below(runs, id);
     let Some(run) = joined(above, below, id) else {

@@ -138,6 +138,14 @@ fn insert_run(runs: &mut KeyedList<Run>, alloc: Global, run: Run) -> Result<(), 
 
 /// Adds an id, and returns `true`. Returns `false` if a run has it already. An error changes nothing.
 fn add(runs: &mut KeyedList<Run>, alloc: Global, id: u32) -> Result<bool, AllocError> {
+    if runs.add_alone(alloc, id)? {
+        return Ok(true);
+    }
+    add_beside(runs, alloc, id)
+}
+
+/// Adds an id that can be next to a run, as [`add`] does.
+fn add_beside(runs: &mut KeyedList<Run>, alloc: Global, id: u32) -> Result<bool, AllocError> {
     let above = run_from(runs, id);
     let below = run_below(runs, id);
     let Some(run) = joined(above, below, id) else {

@@ -3,6 +3,7 @@
 //! The runs of ids of a leaf.
 
 use super::Chunk;
+use crate::proved::vm_list::find;
 use crate::proved::vm_list::id_set::Run;
 
 impl Chunk<Run> {
@@ -17,5 +18,18 @@ impl Chunk<Run> {
         };
         self.entries.truncate(at + usize::from(has_more));
         Some(first)
+    }
+
+    /// Returns true if an id is between two runs of the leaf, and next to none of them.
+    pub(in crate::proved::vm_list) fn is_alone(&self, id: u32) -> bool {
+        let runs = self.entries.as_slice();
+        let Err(at) = find(runs, id.into()) else {
+            return false;
+        };
+        if at == 0 || at >= runs.len() {
+            return false;
+        }
+        let (above, below) = (runs[at - 1], runs[at]);
+        u64::from(id) + 1 < u64::from(above.first) && u64::from(below.last) + 1 < u64::from(id)
     }
 }

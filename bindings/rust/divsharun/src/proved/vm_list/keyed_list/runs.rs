@@ -3,9 +3,11 @@
 //! The runs of ids of a list.
 
 use super::KeyedList;
-use crate::proved::vm_list::chunk::{Chunk, MIN_ENTRIES};
+use crate::proved::vm_list::chunk::{Chunk, MAX_ENTRIES, MIN_ENTRIES};
 use crate::proved::vm_list::id_set::Run;
-use crate::proved::vm_tree::{Cut, Cutting, Entry};
+use crate::proved::vm_tree::{Change, Cut, Cutting, Edit, Entry, Tree};
+use crate::rattle::Box;
+use crate::rattle::{AllocError, Global};
 
 /// Takes the lowest id out of a leaf.
 struct Pop {
@@ -26,7 +28,73 @@ impl Cut<Chunk<Run>> for Pop {
     }
 }
 
+/// Adds an id that is between two runs of a leaf, and next to none of them.
+struct AddAlone {
+    id: u32,
+}
+
+impl AddAlone {
+    /// Returns the run of the id.
+    fn run(&self) -> Run {
+        Run {
+            first: self.id,
+            last: self.id,
+        }
+    }
+}
+
+impl Edit<Chunk<Run>> for AddAlone {
+    fn change(&mut self, leaf: &mut Chunk<Run>, _was: Entry) -> Change {
+        if !leaf.is_alone(self.id) {
+            return Change::Refused;
+        }
+        if leaf.len() >= MAX_ENTRIES {
+            return Change::Full;
+        }
+        match leaf.insert(self.run()) {
+            Ok(()) => Change::Changed,
+            Err(_) => Change::OutOfMemory,
+        }
+    }
+
+    fn split(
+        &mut self,
+        leaf: &mut Chunk<Run>,
+        alloc: Global,
+    ) -> Result<Box<Chunk<Run>>, AllocError> {
+        match leaf.split(alloc, self.run()) {
+            Ok(upper) => Ok(upper),
+            Err(_) => Err(AllocError),
+        }
+    }
+}
+
+/// Adds an id that is between two runs of its leaf and next to none of them, and returns true. Returns false, and
+/// changes nothing, for any other id. An error changes nothing.
+fn add_alone(tree: &mut Tree<Chunk<Run>>, alloc: Global, id: u32) -> Result<bool, AllocError> {
+    tree.facts();
+    let mut add = AddAlone { id };
+    match tree.edit(id.into(), &mut add, alloc, &mut 0) {
+        Ok(true) => Ok(true),
+        Ok(false) => Ok(false),
+        Err(error) => Err(error),
+    }
+}
+
 impl KeyedList<Run> {
+    /// Adds an id that is between two runs of its leaf and next to none of them, and returns true. It descends once.
+    /// Returns false, and changes nothing, for any other id. An error changes nothing.
+    pub(in crate::proved::vm_list) fn add_alone(
+        &mut self,
+        alloc: Global,
+        id: u32,
+    ) -> Result<bool, AllocError> {
+        if self.tree.is_empty() {
+            return Ok(false);
+        }
+        add_alone(&mut self.tree, alloc, id)
+    }
+
     /// Removes and returns the lowest id. It does not allocate.
     pub(in crate::proved::vm_list) fn pop(&mut self) -> Option<u32> {
         if self.tree.is_empty() {
