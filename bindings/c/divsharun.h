@@ -70,9 +70,9 @@
  *
  * Calls on one id, device or range of a map take logarithmic time too, also if they skip
  * ids. An allocation in a map can also move its values, in linear time. Counts,
- * dvs_longest_gap() and the ends of a space or of a range of ids take constant time. Allocating an array takes the time of each request
- * or id. All other calls take time at most linear in the size of the object, the array or
- * the text.
+ * dvs_longest_gap() and the ends of a space or of a range of ids take constant time. Allocating an
+ * array takes the time of each request or id. All other calls take time at most linear in the size
+ * of the object, the array or the text.
  *
  * Stack. 64 KiB are enough for every call.
  *

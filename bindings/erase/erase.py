@@ -88,8 +88,9 @@ MODULES = ORIGIN.format("crates.txt") + """
 #![allow(unused_imports, unused_variables)]
 """
 ATTRIBUTES_WITH_TESTS = "#![allow(dead_code, unused_assignments, unused_variables)]\n"
-# Code that only readers of values or callers in Rattle reach, in files that the package has, and an error that no call returns.
-UNREACHED = re.compile(r"^ *(?=(?:pub fn align_(?:down|up)|Overlap)\(|pub enum ValueError\b)", re.MULTILINE)
+# Code that only readers of values, the library for C or callers in Rattle reach, in files that the package has, and an error that no call returns.
+UNREACHED = re.compile(r"^ *(?=(?:pub fn align_(?:down|up)|Overlap)\(|pub fn set\(&mut self, address\b|pub enum ValueError\b)",
+                       re.MULTILINE)
 # Types of the package that serde saves.
 SAVED = re.compile(r"^(?=pub enum (?:AllocPolicy|NodeState)\b)", re.MULTILINE)
 PRELUDE_OF_TESTS = "use crate::testing::*;\nuse crate::testing::{assert, assert_eq};\n"

@@ -91,6 +91,7 @@ impl<T> RangeMap<T> {
     /// # Errors
     ///
     /// If the address is free or outside the space, it returns the given value and changes nothing.
+    #[allow(dead_code)]
     pub fn set(&mut self, address: u64, value: T) -> core::result::Result<T, T> {
         match self.get_mut(address) {
             Some(place) => Ok(mem::replace(place, value)),
