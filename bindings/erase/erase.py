@@ -84,7 +84,7 @@ MODULES = ORIGIN.format("crates.txt") + """
 // Names are public in Rattle, and some proofs need another form than these lints or a statement that is removed.
 #![allow(clippy::enum_variant_names, clippy::wrong_self_convention)]
 #![allow(clippy::large_enum_variant, clippy::needless_range_loop, clippy::only_used_in_recursion)]
-#![allow(clippy::question_mark, clippy::too_many_arguments, clippy::while_let_on_iterator)]
+#![allow(clippy::needless_match, clippy::question_mark, clippy::too_many_arguments, clippy::while_let_on_iterator)]
 #![allow(unused_imports, unused_variables)]
 """
 ATTRIBUTES_WITH_TESTS = "#![allow(dead_code, unused_assignments, unused_variables)]\n"

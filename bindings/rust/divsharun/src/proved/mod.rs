@@ -10,6 +10,7 @@
     clippy::only_used_in_recursion
 )]
 #![allow(
+    clippy::needless_match,
     clippy::question_mark,
     clippy::too_many_arguments,
     clippy::while_let_on_iterator
