@@ -71,7 +71,7 @@ module _ {X : Type 0} (key : X → ℕ) where
       go [] = tt
       go (x ∷ xs) = (le-ltb _ _ (omega arith), go xs)
 
-  some_below : (t : ℕ) (m : List X) → 0 < length m → lowest_key key m < t → IsSome (highest_below key t m)
+  pub some_below : (t : ℕ) (m : List X) → 0 < length m → lowest_key key m < t → IsSome (highest_below key t m)
   unfolding highest_below
   some_below t [] l h = absurd (omega (arith, l))
   some_below t (x ∷ []) l h = ap is_some (cond-true (nat_lt (key x) t) (Some x) None (lt-ltb _ _ h))

@@ -69,5 +69,4 @@ pub record IsAddedAlone (id : ℕ) (c : List Run) (cs : List (List Run)) : Type 
 -- An id is next to no run of the leaf, which has no room.
 pub record IsCrowdedAlone (id : ℕ) (c : List Run) : Type 0 where
   pub alone : IsAlone id c
-  pub new : entry_at last_of id c ≡ None
   pub full : 64 ≤ length c

@@ -22,7 +22,7 @@ ghost use Rattle.std.specs.Prelude.{
   Some,
   option_copied,
 };
-ghost use Rattle.vm_list.specs.Entries.{IsDescendingBy, with_entry, without, entry_at, at_or_above, highest_below, IsFoundAt};
+ghost use Rattle.vm_list.specs.Entries.{IsDescendingBy, with_entry, without, entry_at, at_or_above, highest_below, IsFoundAt, IsMissingAt};
 ghost use Rattle.vm_list.specs.Leaves.{lowest_key};
 ghost use Rattle.vm_list.specs.Puts.{CanLower};
 
@@ -39,8 +39,16 @@ pub(crate) const MAX_ENTRIES: usize = 64;
 /// The maximum number of entries of a leaf after a join.
 const MAX_JOINED: usize = 48;
 
-/// The number of entries below which a leaf is joined with one next to it, if both fit in one.
-pub(crate) const MIN_ENTRIES: usize = 16;
+/// The minimum number of entries of both parts of a leaf that is split.
+const MIN_ENTRIES: usize = 16;
+
+/// Returns true if a leaf with this number of entries is to be joined with one next to it, if both fit in one. They
+/// are tried again after half of the entries are gone.
+pub(crate) fn may_join(len: usize) -> bool
+    ensures { result ≡ false → 0 < len }
+{
+    matches!(len, 0 | 1 | 3 | 7 | 15)
+}
 
 /// Entries in descending order of their keys.
 ///
@@ -239,16 +247,22 @@ impl<E: Keyed> Chunk<E> {
         Some(&self.entries[at])
     }
 
-    /// Puts an entry in the place of the one with its key, which is returned. Returns the entry if there is none.
-    pub fn replace(&mut self, entry: E) -> Result<E, E>
-        ensures replaced { IfOk result (λ old. (entry_at E.key_of (E.key_of entry) self.old ≡ Some old) × (self.new ≡ with_entry E.key_of entry self.old)) }
-        ensures unchanged { IfErr result (λ e. (entry_at E.key_of (E.key_of entry) self.old ≡ None) × (e ≡ entry) × (self.new ≡ self.old)) }
+    /// Returns the index of the entry with this key, or the index at which such an entry belongs.
+    pub(crate) fn find(&self, key: u64) -> Result<usize, usize>
+        ensures found { IfOk result (λ at. IsFoundAt E.key_of key at self.now) }
+        ensures missing { IfErr result (λ at. IsMissingAt E.key_of key at self.now) }
+    {
+        find(self.entries.as_slice(), key)
+    }
+
+    /// Puts an entry in the place of the one with its key, which is at this index and is returned.
+    pub(crate) fn replace_at(&mut self, at: usize, entry: E) -> E
+        requires { IsFoundAt E.key_of (E.key_of entry) at self.old }
+        ensures old { entry_at E.key_of (E.key_of entry) self.old ≡ Some result }
+        ensures replaced { self.new ≡ with_entry E.key_of entry self.old }
         ensures longer { length self.old ≤ length self.new }
     {
-        match find(self.entries.as_slice(), entry.key()) {
-            Ok(at) => Ok(mem::replace(&mut self.entries[at], entry)),
-            Err(_) => Err(entry),
-        }
+        mem::replace(&mut self.entries[at], entry)
     }
 
     /// Puts an entry with a lower key in the place of the one with this key, which is returned. Returns the entry if
@@ -264,15 +278,18 @@ impl<E: Keyed> Chunk<E> {
         }
     }
 
-    /// Inserts an entry with a new key. An error changes nothing and returns the entry.
-    pub fn insert(&mut self, entry: E) -> Result<(), AllocFailed<E>>
-        requires { entry_at E.key_of (E.key_of entry) self.old ≡ None }
+    /// Inserts an entry with a new key at the index at which it belongs. An error changes nothing and returns the entry.
+    pub(crate) fn insert_at(&mut self, at: usize, entry: E) -> Result<(), AllocFailed<E>>
+        requires { IsMissingAt E.key_of (E.key_of entry) at self.old }
         ensures inserted { OnOk result (self.new ≡ with_entry E.key_of entry self.old) }
         ensures unchanged { OnErr result (self.new ≡ self.old) }
         ensures returned { IfErr result (λ e. e.value ≡ entry) }
         ensures longer { length self.old ≤ length self.new }
     {
-        insert_in(&mut self.entries, entry)
+        if let Err(failed) = self.entries.insert(at, entry) {
+            return Err(failed);
+        }
+        Ok(())
     }
 
     /// Inserts an entry with a new key, and moves the upper part to a new leaf. An error changes nothing and returns

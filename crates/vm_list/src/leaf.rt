@@ -5,7 +5,7 @@ ghost use Rattle.vm_list.specs.Puts.{IsPut, IsCrowded, IsTaken, IsLowered, IsNot
 ghost use Rattle.vm_list.specs.Entries.{entry_at};
 
 use crate::Keyed;
-use crate::chunk::{Chunk, MAX_ENTRIES, MIN_ENTRIES};
+use crate::chunk::{Chunk, MAX_ENTRIES, may_join};
 use std::alloc::{AllocError, Global};
 use vm_tree::{Change, CopyLeaf, Cut, Cutting, Edit, Entry, Leaf};
 
@@ -61,16 +61,16 @@ impl<E: Keyed> Edit<Chunk<E>> for Put<E> {
         let Some(entry) = self.entry.take() else {
             return Change::Refused;
         };
-        match leaf.replace(entry) {
-            Ok(old) => {
-                self.old = Some(old);
+        match leaf.find(entry.key()) {
+            Ok(at) => {
+                self.old = Some(leaf.replace_at(at, entry));
                 Change::Changed
             }
-            Err(entry) if leaf.len() >= MAX_ENTRIES => {
+            Err(_) if leaf.len() >= MAX_ENTRIES => {
                 self.entry = Some(entry);
                 Change::Full
             }
-            Err(entry) => match leaf.insert(entry) {
+            Err(at) => match leaf.insert_at(at, entry) {
                 Ok(()) => {
                     self.old = None;
                     Change::Changed
@@ -118,7 +118,7 @@ impl<E: Keyed> Cut<Chunk<E>> for TakeOut<E> {
         match leaf.remove(self.key) {
             Some(entry) => {
                 self.taken = Some(entry);
-                if leaf.len() < MIN_ENTRIES {
+                if may_join(leaf.len()) {
                     Cutting::Small(leaf.entry())
                 } else {
                     Cutting::Changed(leaf.entry())

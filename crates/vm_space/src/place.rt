@@ -86,6 +86,6 @@ pub(crate) fn take_place(leaf: &mut Leaf, place: &Place, was: &Entry) -> bool
     let gap = Summary::of_gap(&place.gap);
     leaf.reaches(
         to_be_left(gap.longest, was.longest),
-        to_be_left(gap.alignments.into(), was.alignments),
+        to_be_left(gap.alignments.into(), was.alignments.into()),
     )
 }

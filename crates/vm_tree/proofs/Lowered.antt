@@ -81,6 +81,11 @@ module _ {X : Type 0} (en : X → Entry) (P : X → Type 0) (J : X → X → Lis
       lower = omega (arith, g.one.height, l.lower);
       cut = subst (λ xs. IsShrunk en J key edits s.leaves xs) (sym l.leaves) (looser g.one.cut);
     }
+    node_cut s t r (shrunk.Begins a) g k l = record {
+      height = omega (arith, g.one.height, l.height);
+      lower = omega (arith, g.one.height, l.lower);
+      cut = subst (λ xs. IsShrunk en J key edits s.leaves xs) (sym l.leaves) (looser g.one.cut);
+    }
     node_cut s t r (shrunk.Changed e) g k l = record {
       height = omega (arith, g.one.height, l.height);
       lower = omega (arith, g.one.height, l.lower);
@@ -99,5 +104,6 @@ module _ {X : Type 0} (en : X → Entry) (P : X → Type 0) (J : X → X → Lis
     pub some_left : (s t : Subtree X) (o : Shrunk) → Shrank en P (JoinsIf S J) key refuses edits s t o → 2 ≤ kids s → 0 < kids t
     some_left s t shrunk.Refused g k = omega (arith, ap kids g.same, k)
     some_left s t shrunk.Same g k = omega (arith, g.one.fan, k)
+    some_left s t (shrunk.Begins a) g k = omega (arith, g.one.fan, k)
     some_left s t (shrunk.Changed e) g k = omega (arith, g.one.fan, k)
     some_left s t (shrunk.Small e) g k = omega (arith, g.one.fan, k)

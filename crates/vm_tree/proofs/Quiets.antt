@@ -1,6 +1,7 @@
 -- A child whose entry is as before.
-use Rattle.std.proofs.Common.{◌≡◌, ℕ, List, ◌∙◌, sym, refl, subst}
+use Rattle.std.proofs.Common.{◌≡◌, ℕ, List, ◌∙◌, sym, refl, ap, subst}
 use Rattle.vm_tree.specs.Entry.{Entry}
+use Rattle.vm_tree.specs.Rows.{beginning_at}
 use Rattle.vm_tree.specs.Subtree.{Subtree, nth_tree, entry_of}
 use Rattle.vm_tree.specs.Shrinks.{Shrank, ShrankAt, IsQuiet}
 use Rattle.vm_tree.specs.declared.cut.Shrunk.{Shrunk}
@@ -11,18 +12,35 @@ module _ {X : Type 0} (entry : X → Entry) (enough : X → Type 0) (joins : X �
       → Shrank entry enough joins key refuses edits s t r
   quieted was s t shrunk.Refused shrunk.Refused w q g = g
   quieted was s t shrunk.Refused shrunk.Same w q g = absurd q
+  quieted was s t shrunk.Refused (shrunk.Begins a) w q g = absurd q
   quieted was s t shrunk.Refused (shrunk.Changed d) w q g = absurd q
   quieted was s t shrunk.Refused (shrunk.Small d) w q g = absurd q
   quieted was s t shrunk.Same shrunk.Refused w q g = absurd q
   quieted was s t shrunk.Same shrunk.Same w q g = g
+  quieted was s t shrunk.Same (shrunk.Begins a) w q g = absurd q
   quieted was s t shrunk.Same (shrunk.Changed d) w q g = absurd q
   quieted was s t shrunk.Same (shrunk.Small d) w q g = absurd q
+  quieted was s t (shrunk.Begins b) shrunk.Refused w q g = absurd q
+  quieted was s t (shrunk.Begins b) shrunk.Same w q g = absurd q
+  quieted was s t (shrunk.Begins b) (shrunk.Begins a) w q g = record {
+    one = g.one;
+    sum = ap (λ z. beginning_at z (entry_of entry s)) q ∙ g.sum;
+    full = g.full;
+  }
+  quieted was s t (shrunk.Begins b) (shrunk.Changed d) w q g = absurd q
+  quieted was s t (shrunk.Begins b) (shrunk.Small d) w q g = absurd q
   quieted was s t (shrunk.Changed e) shrunk.Refused w q g = absurd q
   quieted was s t (shrunk.Changed e) shrunk.Same w q g = record { one = g.one; sum = sym g.sum ∙ q ∙ w; full = g.full }
+  quieted was s t (shrunk.Changed e) (shrunk.Begins a) w q g = record {
+    one = g.one;
+    sum = ap (beginning_at a) (sym w) ∙ sym q ∙ g.sum;
+    full = g.full;
+  }
   quieted was s t (shrunk.Changed e) (shrunk.Changed d) w q g = record { one = g.one; sum = q ∙ g.sum; full = g.full }
   quieted was s t (shrunk.Changed e) (shrunk.Small d) w q g = absurd q
   quieted was s t (shrunk.Small e) shrunk.Refused w q g = absurd q
   quieted was s t (shrunk.Small e) shrunk.Same w q g = absurd q
+  quieted was s t (shrunk.Small e) (shrunk.Begins a) w q g = absurd q
   quieted was s t (shrunk.Small e) (shrunk.Changed d) w q g = absurd q
   quieted was s t (shrunk.Small e) (shrunk.Small d) w q g = record { one = g.one; sum = q ∙ g.sum }
 
@@ -34,4 +52,5 @@ pub still_small : (was : Entry) (P : Type 0) (o r : Shrunk) → IsQuiet was o r 
 still_small was P (shrunk.Small e) r q f d h = f e refl
 still_small was P shrunk.Refused r q f d h = absurd (subst (IsQuiet was shrunk.Refused) h q)
 still_small was P shrunk.Same r q f d h = absurd (subst (IsQuiet was shrunk.Same) h q)
+still_small was P (shrunk.Begins a) r q f d h = absurd (subst (IsQuiet was (shrunk.Begins a)) h q)
 still_small was P (shrunk.Changed e) r q f d h = absurd (subst (IsQuiet was (shrunk.Changed e)) h q)

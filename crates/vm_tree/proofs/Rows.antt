@@ -1,13 +1,13 @@
 -- The arrays of a node as a list of entries.
 use Rattle.std.proofs.Common.{◌≡◌, ℕ, zero, suc, ◌+◌, ◌-◌, ◌≤◌, ◌<◌, max, List, [], ◌∷◌, ◌++◌, length, take, drop, set, get_or, replicate, ◌∙◌, sym, refl, ap, arith, length-take-le}
-use Rattle.std.proofs.lemmas.List.{get_or-take, get_or-drop, drop-drop, drop-replicate, take-append-drop, drop-set-lt, length-set, take-take}
+use Rattle.std.proofs.lemmas.List.{get_or-take, get_or-drop, drop-drop, drop-replicate, take-append-drop, drop-set-lt, length-set, set-get_or, take-take}
 use Rattle.std.proofs.Math.Seq.{take-set-lt}
 use Rattle.std.proofs.lemmas.List.{get_or-replicate}
 use Rattle.std.proofs.lemmas.Bool.{cases_lt}
 use Rattle.std.specs.List.{insert, remove}
 use Rattle.vm_tree.specs.Entry.{Entry}
 use Rattle.vm_tree.specs.Padded.{IsPadded, greatest}
-use Rattle.vm_tree.specs.Rows.{rows, nth, blank, Ascends, longest_of, alignments_of, sum_of}
+use Rattle.vm_tree.specs.Rows.{rows, nth, blank, beginning_at, Ascends, longest_of, alignments_of, sum_of}
 
 pub length-rows : (xs bs cs : List ℕ) → length bs ≡ length xs → length cs ≡ length xs → length (rows xs bs cs) ≡ length xs
 length-rows [] bs cs p q = refl
@@ -130,6 +130,16 @@ written xs bs cs n i e p q h l =
     rw (take-set-lt n xs i e.at l, take-set-lt n bs i e.longest l, take-set-lt n cs i e.alignments l)
     (rows-set (take n xs) (take n bs) (take n cs) i e (omega (arith, x, b)) (omega (arith, x, c)))
 
+-- A list of entries after a first address was written.
+pub begun : (xs bs cs : List ℕ) (n i a : ℕ) → length bs ≡ length xs → length cs ≡ length xs → n ≤ length xs → i < n
+    → rows (take n (set xs i a)) (take n bs) (take n cs)
+    ≡ set (rows (take n xs) (take n bs) (take n cs)) i (beginning_at a (nth (rows (take n xs) (take n bs) (take n cs)) i))
+begun xs bs cs n i a p q h l =
+    ap (λ z. rows (take n (set xs i a)) (take n z) (take n cs)) (sym (set-get_or bs i 0))
+    ∙ ap (λ z. rows (take n (set xs i a)) (take n (set bs i (get_or bs i 0))) (take n z)) (sym (set-get_or cs i 0))
+    ∙ written xs bs cs n i (record { at = a; longest = get_or bs i 0; alignments = get_or cs i 0 }) p q h l
+    ∙ ap (λ e. set (rows (take n xs) (take n bs) (take n cs)) i (beginning_at a e)) (sym (read xs bs cs n i blank p q h l))
+
 -- A list of entries without one.
 pub rows-remove : (xs bs cs : List ℕ) (i : ℕ) → length bs ≡ length xs → length cs ≡ length xs
     → rows (remove xs i) (remove bs i) (remove cs i) ≡ remove (rows xs bs cs) i
@@ -216,6 +226,31 @@ entry a b c = record { at = a; longest = b; alignments = c }
 
 pub sum_is : (es : List Entry) (a b c : ℕ) → a ≡ (nth es 0).at → b ≡ longest_of es → c ≡ alignments_of es → entry a b c ≡ sum_of es
 sum_is es a b c p q r = rw (p ∙ sym (sum-at es), q ∙ sym (sum-longest es), r ∙ sym (sum-alignments es)) refl
+
+-- The sum of entries of which one begins at another address.
+begun_longest : (es : List Entry) (i a : ℕ) → longest_of (set es i (beginning_at a (nth es i))) ≡ longest_of es
+begun_longest [] i a = refl
+begun_longest (e ∷ es) zero a = refl
+begun_longest (e ∷ es) (suc i) a = ap (max e.longest) (begun_longest es i a)
+
+begun_alignments : (es : List Entry) (i a : ℕ) → alignments_of (set es i (beginning_at a (nth es i))) ≡ alignments_of es
+begun_alignments [] i a = refl
+begun_alignments (e ∷ es) zero a = refl
+begun_alignments (e ∷ es) (suc i) a = ap (max e.alignments) (begun_alignments es i a)
+
+pub first_begun : (es : List Entry) (a : ℕ) → 0 < length es → sum_of (set es 0 (beginning_at a (nth es 0))) ≡ beginning_at a (sum_of es)
+first_begun [] a l = absurd (omega arith)
+first_begun (e ∷ es) a l = refl
+
+pub later_begun : (es : List Entry) (i a : ℕ) → 0 < i → sum_of (set es i (beginning_at a (nth es i))) ≡ sum_of es
+later_begun [] i a l = refl
+later_begun (e ∷ es) zero a l = absurd (omega arith)
+later_begun (e ∷ es) (suc i) a l =
+    let fs : List Entry = set es i (beginning_at a (nth es i)) in
+    let b : (sum_of fs).longest ≡ (sum_of es).longest = sum-longest fs ∙ begun_longest es i a ∙ sym (sum-longest es) in
+    let c : (sum_of fs).alignments ≡ (sum_of es).alignments = sum-alignments fs ∙ begun_alignments es i a ∙ sym (sum-alignments es) in
+    ap (λ z. entry e.at (max e.longest z) (max e.alignments (sum_of fs).alignments)) b
+    ∙ ap (λ z. entry e.at (max e.longest (sum_of es).longest) (max e.alignments z)) c
 
 pub pad_set : (xs : List ℕ) (n i p x : ℕ) → IsPadded xs n p → i < n → IsPadded (set xs i x) n p
 pad_set xs n i p x h l = drop-set-lt n xs i x l ∙ h ∙ ap (λ j. replicate (j - n) p) (sym (length-set xs i x))

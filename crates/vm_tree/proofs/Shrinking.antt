@@ -1,21 +1,23 @@
 -- A node after a change of one child that leaves it fewer items.
 use Rattle.std.proofs.Common.{◌≡◌, ℕ, zero, suc, ◌+◌, ◌≤◌, ◌<◌, List, [], ◌∷◌, ◌++◌, length, take, drop, set, map, Option, Box, ◌∙◌, sym, refl, ap, subst, arith, append_assoc, inl, inr, ◌⊎◌}
-use Rattle.std.proofs.lemmas.List.{length-append, length-set, map-set, length-map, get_or-set_other, get_or-set_same}
+use Rattle.std.proofs.lemmas.List.{length-append, length-set, map-set, length-map, get_or-set_other, get_or-set_same, set-get_or}
+use Rattle.std.proofs.Math.Seq.{map-set_same}
 use Rattle.std.proofs.lemmas.Bool.{cases_eq}
 use Rattle.std.specs.declared.alloc.Global.{Global}
 use Rattle.vm_tree.specs.declared.node.Node.{Node}
 use Rattle.vm_tree.specs.Entry.{Entry}
-use Rattle.vm_tree.specs.Rows.{sum_of, nth}
+use Rattle.vm_tree.specs.Rows.{sum_of, nth, beginning_at}
 use Rattle.vm_tree.specs.Slots.{held, IsDense}
 use Rattle.vm_tree.specs.Subtree.{Subtree, leaves_of, front, over, nth_tree, no_tree, kids, entry_of, IsFull, AreFull}
 use Rattle.vm_tree.specs.Edits.{AtKey}
 use Rattle.vm_tree.specs.Over.{IsOver}
 use Rattle.vm_tree.specs.Mends.{NoJoin, IsRegrouped, IsMended, AtPair, with_pair}
-use Rattle.vm_tree.specs.Shrinks.{Any, JoinsIf, Meet, MeetsAfter, IsSumOf, IsShrunk, IsCut, IsUncut, IsCutSame, IsCutFull, Shrank, ShrankAt}
+use Rattle.vm_tree.specs.Shrinks.{Any, HasBegun, JoinsIf, Meet, MeetsAfter, IsSumOf, IsShrunk, IsCut, IsUncut, IsCutSame, IsCutFull, Shrank, ShrankAt}
 use Rattle.vm_tree.specs.declared.cut.Shrunk.{Shrunk}
 use Rattle.vm_tree.specs.declared.cut.Shrunk.TheVariants as shrunk
 use Rattle.vm_tree.specs.Nodes.{leaf_tree, node_tree}
-use Rattle.vm_tree.proofs.Flats.{flat-append, flat_set, front_set, full_at, full_set, full_both, front_is, full_over, sum-entries, length-entries}
+use Rattle.vm_tree.proofs.Flats.{flat-append, flat_set, front_set, full_at, full_set, full_both, front_is, full_over, sum-entries, length-entries, nth-entries}
+use Rattle.vm_tree.proofs.Rows.{first_begun, later_begun}
 use Rattle.vm_tree.proofs.Widened.{Lifts, middle, over_stands, over_refused, over_edited, key_lifts}
 use Rattle.vm_tree.proofs.Cuts.{meet_left, meet_right}
 use Rattle.vm_tree.proofs.Parts.{over_by}
@@ -117,16 +119,8 @@ pair_full P h zero new (s ∷ t ∷ ss) a b l = full_both P h new ss b a.1.1
 pair_full P h (suc j) new (s ∷ ss) a b l = (a.0, pair_full P h j new ss a.1 b (omega arith))
 
 module _ {X : Type 0} where
-  set-nth : (ss : List (Subtree X)) (i : ℕ) (t : Subtree X) → t ≡ nth_tree ss i → i < length ss → set ss i t ≡ ss
-  set-nth [] i t e l = absurd (omega arith)
-  set-nth (s ∷ ss) zero t e l = ap (λ z. z ∷ ss) e
-  set-nth (s ∷ ss) (suc i) t e l = ap (λ zs. s ∷ zs) (set-nth ss i t e (omega arith))
-
-  same-entries : (en : X → Entry) (ss : List (Subtree X)) (i : ℕ) (t : Subtree X) → entry_of en t ≡ entry_of en (nth_tree ss i) → i < length ss
-      → map (entry_of en) (set ss i t) ≡ map (entry_of en) ss
-  same-entries en [] i t e l = absurd (omega arith)
-  same-entries en (s ∷ ss) zero t e l = ap (λ z. z ∷ map (entry_of en) ss) e
-  same-entries en (s ∷ ss) (suc i) t e l = ap (λ zs. entry_of en s ∷ zs) (same-entries en ss i t e (omega arith))
+  set-nth : (ss : List (Subtree X)) (i : ℕ) (t : Subtree X) → t ≡ nth_tree ss i → set ss i t ≡ ss
+  set-nth ss i t e = ap (set ss i) e ∙ set-get_or ss i no_tree
 
 module _ {X C : Type 0} (en : X → Entry) (P : X → Type 0) (key : ℕ) (refuses : X → Type 0) (edits : X → List X → Type 0) (J K : X → X → List X → Type 0)
     (tree : Box C Global → Subtree X) (least i : ℕ) (ss : List (Subtree X)) (even : AreFull P (front ss) ss) (l : i < length ss) (deep : least ≤ front ss)
@@ -196,12 +190,12 @@ module _ {X C : Type 0} (en : X → Entry) (P : X → Type 0) (key : ℕ) (refus
   -- The four outcomes.
   module _ (w : (x y : X) (zs : List X) → J x y zs → K x y zs) (os : List (Option (Box C Global))) (d : IsDense os) where
     same_list : (new : Subtree X) → map tree (held os) ≡ set ss i new → new ≡ nth_tree ss i → map tree (held os) ≡ ss
-    same_list new e s = e ∙ set-nth ss i new s l
+    same_list new e s = e ∙ set-nth ss i new s
 
     pub uncut_over : ShrankAt en P J key refuses edits i ss (map tree (held os)) shrunk.Refused → IsOver en P least tree es os
     uncut_over r =
         over_set os d es r.new r.list (subst (IsFull P (front ss)) (sym r.shrank.same) full_child)
-        (n ∙ ap (map (entry_of en)) (sym (set-nth ss i r.new r.shrank.same l)))
+        (n ∙ ap (map (entry_of en)) (sym (set-nth ss i r.new r.shrank.same)))
 
     pub uncut : ShrankAt en P J key refuses edits i ss (map tree (held os)) shrunk.Refused
         → IsUncut en P K key refuses edits (over ss) (over (map tree (held os)))
@@ -213,7 +207,7 @@ module _ {X C : Type 0} (en : X → Entry) (P : X → Type 0) (key : ℕ) (refus
     pub same_over : ShrankAt en P J key refuses edits i ss (map tree (held os)) shrunk.Same → IsOver en P least tree es os
     same_over r =
         over_set os d es r.new r.list (still os d es r.new r.list r.shrank.full)
-        (n ∙ sym (same-entries en ss i r.new r.shrank.sum l))
+        (n ∙ sym (map-set_same (entry_of en) ss i r.new no_tree r.shrank.sum))
 
     pub same : ShrankAt en P J key refuses edits i ss (map tree (held os)) shrunk.Same
         → IsCutSame en P K key refuses edits (over ss) (over (map tree (held os)))
@@ -239,6 +233,38 @@ module _ {X C : Type 0} (en : X → Entry) (P : X → Type 0) (key : ℕ) (refus
           sum = v ∙ ap sum_of o.entries ∙ sum-entries en P _ (map tree (held os)) o.even;
           full = full_set_over os d fs r.new r.list g;
         }
+
+    module _ (a : ℕ) (fs : List Entry) (r : ShrankAt en P J key refuses edits i ss (map tree (held os)) (shrunk.Begins a))
+        (s : fs ≡ set es i (beginning_at a (nth es i))) where
+      whole : ShrankAt en P J key refuses edits i ss (map tree (held os)) (shrunk.Changed (beginning_at a (nth es i)))
+      whole = record {
+        new = r.new;
+        list = r.list;
+        shrank = record {
+          one = r.shrank.one;
+          sum = ap (beginning_at a) (ap (λ zs. nth zs i) n ∙ nth-entries en ss i l) ∙ r.shrank.sum;
+          full = r.shrank.full;
+        };
+      }
+
+      pub begun_over : IsOver en P least tree fs os
+      begun_over = full_over_set (beginning_at a (nth es i)) fs whole s
+
+      was : sum_of es ≡ entry_of en (over ss)
+      was = ap sum_of n ∙ sum-entries en P _ ss even
+
+      pub begun : (o : Shrunk) → HasBegun i a o → Shrank en P K key refuses edits (over ss) (over (map tree (held os))) o
+      begun shrunk.Refused h = absurd h
+      begun shrunk.Same h =
+          let g = full (beginning_at a (nth es i)) (sum_of fs) fs whole s refl in
+          record { one = g.one; sum = sym g.sum ∙ ap sum_of s ∙ later_begun es i a h ∙ was; full = g.full }
+      begun (shrunk.Begins b) h =
+          let g = full (beginning_at a (nth es i)) (sum_of fs) fs whole s refl in
+          let f : sum_of fs ≡ beginning_at a (sum_of es) =
+          ap sum_of (s ∙ ap (λ j. set es j (beginning_at a (nth es j))) h.0) ∙ first_begun es a (omega (arith, count, l)) in
+          record { one = g.one; sum = ap (λ c. beginning_at c (entry_of en (over ss))) h.1 ∙ ap (beginning_at a) (sym was) ∙ sym f ∙ g.sum; full = g.full }
+      begun (shrunk.Changed e) h = absurd h
+      begun (shrunk.Small e) h = absurd h
 
     module _ (e : Entry) (r : ShrankAt en P J key refuses edits i ss (map tree (held os)) (shrunk.Small e)) where
       pub small_entries : (fs : List Entry) → fs ≡ set es i e → fs ≡ map (entry_of en) (map tree (held os))
@@ -300,6 +326,7 @@ module _ {X C : Type 0} (en : X → Entry) (P : X → Type 0) (key : ℕ) (refus
         pub small : (res : Shrunk) → IsSumOf ft res → Shrank en P K key refuses edits (over ss) (over ts) res
         small shrunk.Refused q = absurd q
         small shrunk.Same q = absurd q
+        small (shrunk.Begins a) q = absurd q
         small (shrunk.Changed a) q = record {
           one = small_cut;
           sum = q.1 ∙ sum_is;

@@ -18,6 +18,7 @@ pub record IsLowered {X : Type 0} (s t : Subtree X) : Type 0 where
 abbrev pub HasShrunk : Shrunk → Bool
 HasShrunk shrunk.Refused = false
 HasShrunk shrunk.Same = true
+HasShrunk (shrunk.Begins a) = true
 HasShrunk (shrunk.Changed e) = true
 HasShrunk (shrunk.Small e) = true
 

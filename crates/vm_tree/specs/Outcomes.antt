@@ -24,8 +24,8 @@ module _ {C : Type 0} (es : List Entry) (bs : List (Box C Global)) (i : ℕ) (en
     pub kids : cs ++ held u.slots ≡ insert bs i child
     pub dense : IsDense u.slots
     pub full : 16 ≤ length es
-    pub low : 8 ≤ length cs
-    pub high : 8 ≤ length (held u.slots)
+    pub low : 5 ≤ length cs
+    pub high : 5 ≤ length (held u.slots)
     pub same : length fs ≡ length cs
     pub sum : u.low ≡ sum_of fs
     pub upper : u.high ≡ sum_of u.entries

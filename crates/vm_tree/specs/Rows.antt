@@ -31,6 +31,10 @@ blank = record { at = 0; longest = 0; alignments = 0 }
 abbrev pub nth : List Entry → ℕ → Entry
 nth es i = slice_index_or es i blank
 
+-- The entry with this first address.
+abbrev pub beginning_at : ℕ → Entry → Entry
+beginning_at a e = record { at = a; longest = e.longest; alignments = e.alignments }
+
 -- The addresses ascend, from the second entry on.
 abbrev pub Ascends : List Entry → Type 0
 Ascends es = (i j : ℕ) → 0 < i → i ≤ j → j < length es → (nth es i).at ≤ (nth es j).at

@@ -1,7 +1,7 @@
 -- What a change that leaves fewer items did to a subtree.
-use Rattle.std.specs.Prelude.{◌≡◌, ℕ, ◌+◌, ◌≤◌, List, [], ◌∷◌, ◌++◌, length, set}
+use Rattle.std.specs.Prelude.{◌≡◌, ℕ, ◌+◌, ◌≤◌, ◌<◌, List, [], ◌∷◌, ◌++◌, length, set}
 use Rattle.vm_tree.specs.Entry.{Entry}
-use Rattle.vm_tree.specs.Rows.{sum_of}
+use Rattle.vm_tree.specs.Rows.{sum_of, beginning_at}
 use Rattle.vm_tree.specs.Subtree.{Subtree, entry_of, nth_tree, kids, IsFull}
 use Rattle.vm_tree.specs.Edits.{IsHome, IsRefused, IsEdited}
 use Rattle.vm_tree.specs.Mends.{IsRegrouped}
@@ -66,6 +66,7 @@ module _ {X : Type 0} (entry : X → Entry) (enough : X → Type 0) (joins : X �
   abbrev pub Shrank : Subtree X → Subtree X → Shrunk → Type 0
   Shrank s t shrunk.Refused = IsUncut s t
   Shrank s t shrunk.Same = IsCutSame s t
+  Shrank s t (shrunk.Begins a) = IsCutFull (beginning_at a (entry_of entry s)) s t
   Shrank s t (shrunk.Changed e) = IsCutFull e s t
   Shrank s t (shrunk.Small e) = IsCutSmall e s t
 
@@ -79,14 +80,25 @@ module _ {X : Type 0} (entry : X → Entry) (enough : X → Type 0) (joins : X �
 abbrev pub IsSumOf : List Entry → Shrunk → Type 0
 IsSumOf es shrunk.Refused = ⊥
 IsSumOf es shrunk.Same = ⊥
+IsSumOf es (shrunk.Begins a) = ⊥
 IsSumOf es (shrunk.Changed e) = (5 ≤ length es) × (e ≡ sum_of es)
 IsSumOf es (shrunk.Small e) = e ≡ sum_of es
 
--- A child whose entry is as before was not changed as seen from above.
+-- The first address of the child i was written: what it changes of the sum of all.
+abbrev pub HasBegun : ℕ → ℕ → Shrunk → Type 0
+HasBegun i a shrunk.Refused = ⊥
+HasBegun i a shrunk.Same = 0 < i
+HasBegun i a (shrunk.Begins b) = (i ≡ 0) × (b ≡ a)
+HasBegun i a (shrunk.Changed e) = ⊥
+HasBegun i a (shrunk.Small e) = ⊥
+
+-- What a change of a child is as seen from above: the entry can be as before, or begin at another address.
 abbrev pub IsQuiet : Entry → Shrunk → Shrunk → Type 0
 IsQuiet was shrunk.Refused shrunk.Refused = Unit {0}
 IsQuiet was shrunk.Same shrunk.Same = Unit {0}
+IsQuiet was (shrunk.Begins a) (shrunk.Begins b) = b ≡ a
 IsQuiet was (shrunk.Changed e) shrunk.Same = e ≡ was
+IsQuiet was (shrunk.Changed e) (shrunk.Begins a) = e ≡ beginning_at a was
 IsQuiet was (shrunk.Changed e) (shrunk.Changed d) = d ≡ e
 IsQuiet was (shrunk.Small e) (shrunk.Small d) = d ≡ e
 IsQuiet _ _ _ = ⊥

@@ -88,15 +88,28 @@ pub(crate) fn greatest_in(items: &[u64; FANOUT]) -> u64
     most
 }
 
+/// Returns the greatest of small items.
+#[inline(always)]
+#[tactic(auto, using(crate::proofs::Moved::greatest_next))]
+pub(crate) fn most_in(items: &[u8; FANOUT]) -> u8
+    ensures { result ≡ greatest items.now }
+{
+    let mut most = 0;
+    for i in 0..FANOUT {
+        most = most.max(items[i]);
+    }
+    most
+}
+
 /// Moves the items from `at` on to the start of another array, which is all pads.
 #[tactic(auto, using(crate::proofs::Splits::column_upper, crate::proofs::Splits::column_upper_pads, crate::proofs::Splits::column_lower_pads))]
 #[inline(always)]
-pub(crate) fn split_in(
-    items: &mut [u64; FANOUT],
+pub(crate) fn split_in<T: Copy + Drop>(
+    items: &mut [T; FANOUT],
     len: usize,
     at: usize,
-    upper: &mut [u64; FANOUT],
-    pad: u64,
+    upper: &mut [T; FANOUT],
+    pad: T,
 )
     requires within { at ≤ len }
     requires fits { len ≤ FANOUT }

@@ -1,19 +1,18 @@
 //! A change of one leaf that leaves it fewer items, and what it changes above it.
-ghost use Rattle.std.specs.Prelude.{◌≡◌, ◌+◌, ◌*◌, ◌<◌, ◌≤◌, ◌∷◌, [], List, length, map, ℕ, ◌⊎◌};
-ghost use Rattle.vm_tree.specs.Rows.{nth};
+ghost use Rattle.std.specs.Prelude.{◌≡◌, ◌+◌, ◌*◌, ◌<◌, ◌≤◌, ◌∷◌, [], List, length, map, set, ℕ, ◌⊎◌};
+ghost use Rattle.vm_tree.specs.Rows.{nth, beginning_at};
 ghost use Rattle.vm_tree.specs.Subtree.{leaf_of, entry_of, nth_tree, kids, over, leaves_of, front, Ascend};
 ghost use Rattle.vm_tree.specs.Sought.{IsCounted};
 ghost use Rattle.vm_tree.specs.Over.{IsOver};
 ghost use Rattle.vm_tree.specs.Slots.{held, IsDense};
 ghost use Rattle.vm_tree.specs.Nodes.{leaf_tree, node_tree};
 ghost use Rattle.vm_tree.specs.Mends.{NoJoin};
-ghost use Rattle.vm_tree.specs.Shrinks.{Shrank, ShrankAt, MeetsAfter, IsSumOf, IsQuiet, JoinsIf};
+ghost use Rattle.vm_tree.specs.Shrinks.{Shrank, ShrankAt, MeetsAfter, IsSumOf, IsQuiet, JoinsIf, HasBegun};
 ghost use Rattle.vm_tree.specs.Lowers.{IsRootCut};
 ghost use Rattle.vm_tree.specs.Found.{HasKid};
 ghost use Rattle.vm_tree.specs.Entry.{Entry};
 
-use crate::entries::{Entries, Entry, FANOUT, MOST};
-use crate::grow::is_same;
+use crate::entries::{Entries, Entry, FANOUT, MIN_CHILDREN, MOST};
 use crate::leaf::Leaf;
 use crate::mend::{mend_leaves, mend_nodes};
 use crate::node::{Kids, Node};
@@ -54,6 +53,8 @@ pub(crate) enum Shrunk {
     Refused,
     /// What is stored beside the child is as before.
     Same,
+    /// The child begins at this address now. The rest of its entry is as before.
+    Begins(u64),
     /// The child has this entry now.
     Changed(Entry),
     /// The child has this entry now, and may be too small.
@@ -88,7 +89,7 @@ pub(crate) fn cut_root<L: Leaf, E: Cut<L>>(leaf: &mut L, edit: &mut E) -> bool
     }
 }
 
-/// Returns `Same` if the entry of a child is as before.
+/// Returns `Same` if the entry of a child is as before, and `Begins` if only its first address is not.
 #[inline(always)]
 fn quiet(outcome: Shrunk, was: Entry) -> Shrunk
     ensures { IsQuiet was outcome result }
@@ -96,11 +97,15 @@ fn quiet(outcome: Shrunk, was: Entry) -> Shrunk
     match outcome {
         Shrunk::Refused => Shrunk::Refused,
         Shrunk::Same => Shrunk::Same,
+        Shrunk::Begins(at) => Shrunk::Begins(at),
         Shrunk::Changed(entry) => {
-            if is_same(&entry, &was) {
-                return Shrunk::Same;
+            if entry.longest != was.longest || entry.alignments != was.alignments {
+                return Shrunk::Changed(entry);
             }
-            Shrunk::Changed(entry)
+            if entry.at != was.at {
+                return Shrunk::Begins(entry.at);
+            }
+            Shrunk::Same
         }
         Shrunk::Small(entry) => Shrunk::Small(entry),
     }
@@ -143,8 +148,19 @@ fn neighbour(i: usize) -> usize
     if i > 0 { i - 1 } else { 0 }
 }
 
-/// The minimum number of children of a node that is no root.
-const MIN_CHILDREN: usize = 5;
+/// Writes the first address of the child `i`. The node begins there if the child is its first one.
+#[inline(always)]
+fn begin_at(entries: &mut Entries, i: usize, at: u64) -> Shrunk
+    requires { i < length entries.old }
+    ensures entries { entries.new ≡ set entries.old i (beginning_at at (nth entries.old i)) }
+    ensures begun { HasBegun i at result }
+{
+    entries.set_at(i, at);
+    if i > 0 {
+        return Shrunk::Same;
+    }
+    Shrunk::Begins(at)
+}
 
 /// Returns what became of a node that has these entries.
 fn small_of(entries: &Entries) -> Shrunk
@@ -182,6 +198,7 @@ fn cut_leaves<L: Leaf, E: Cut<L>>(
     match cut_leaf_at(slots, i, was, edit, count) {
         Shrunk::Refused => Shrunk::Refused,
         Shrunk::Same => Shrunk::Same,
+        Shrunk::Begins(at) => begin_at(entries, i, at),
         Shrunk::Changed(entry) => {
             entries.set_entry(i, entry);
             Shrunk::Changed(entries.sum())
@@ -252,6 +269,7 @@ fn cut_nodes<L: Leaf, E: Cut<L>>(
     match cut_node_at(slots, i, was, key, edit, count) {
         Shrunk::Refused => Shrunk::Refused,
         Shrunk::Same => Shrunk::Same,
+        Shrunk::Begins(at) => begin_at(entries, i, at),
         Shrunk::Changed(entry) => {
             entries.set_entry(i, entry);
             Shrunk::Changed(entries.sum())

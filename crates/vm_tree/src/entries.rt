@@ -1,27 +1,30 @@
 //! What is stored beside the children of a node.
 ghost use Rattle.std.specs.Prelude.{◌≡◌, ◌+◌, ◌<◌, ◌≤◌, ◌∷◌, [], ◌++◌, take, drop, length, set};
 ghost use Rattle.std.specs.List.{insert, remove};
-ghost use Rattle.vm_tree.specs.Rows.{nth, Ascends, longest_of, alignments_of, sum_of};
+ghost use Rattle.vm_tree.specs.Rows.{nth, Ascends, longest_of, alignments_of, sum_of, beginning_at};
 
-use crate::columns::{append_in, greatest_in, insert_in, last_up_to, remove_in, split_in};
+use crate::columns::{append_in, greatest_in, insert_in, last_up_to, most_in, remove_in, split_in};
 use std::marker::Model;
 
 /// The maximum number of children.
 pub const FANOUT: usize = 16;
+
+/// The minimum number of children of a node that is no root.
+pub(crate) const MIN_CHILDREN: usize = 5;
 
 /// What is stored beside a child: its first address, and the summary of its gaps.
 #[derive(Clone, Copy, Debug)]
 pub struct Entry {
     pub at: u64,
     pub longest: u64,
-    pub alignments: u64,
+    pub alignments: u8,
 }
 
 /// No entry is above it. A change of a root is told it, because no entry of a root is stored.
 pub(crate) const MOST: Entry = Entry {
     at: 0,
     longest: u64::MAX,
-    alignments: u64::MAX,
+    alignments: 64,
 };
 
 /// The entries of up to `FANOUT` children, each part in an array.
@@ -30,7 +33,7 @@ pub(crate) const MOST: Entry = Entry {
 pub struct Entries {
     at: [u64; FANOUT],
     longest: [u64; FANOUT],
-    alignments: [u64; FANOUT],
+    alignments: [u8; FANOUT],
     len: usize,
 }
 
@@ -110,6 +113,17 @@ impl Entries {
         self.at[i] = entry.at;
         self.longest[i] = entry.longest;
         self.alignments[i] = entry.alignments;
+    }
+
+    /// Writes the first address of an entry.
+    #[inline(always)]
+    #[tactic(auto, using(crate::proofs::Rows::length_of, crate::proofs::Rows::begun, crate::proofs::Rows::pad_set))]
+    pub(crate) fn set_at(&mut self, i: usize, at: u64)
+        requires { i < length self.old }
+        ensures { self.new ≡ set self.old i (beginning_at at (nth self.old i)) }
+    {
+        let _len = self.len;
+        self.at[i] = at;
     }
 
     /// Inserts an entry.
@@ -210,11 +224,11 @@ impl Entries {
     /// Returns the most alignments.
     #[inline(always)]
     #[tactic(auto, using(crate::proofs::Rows::alignments_all))]
-    pub fn alignments(&self) -> u64
+    pub fn alignments(&self) -> u8
         ensures { result ≡ alignments_of self.now }
     {
         let _len = self.len;
-        greatest_in(&self.alignments)
+        most_in(&self.alignments)
     }
 
     /// Returns the entry of all of these together.

@@ -4,12 +4,27 @@ ghost use Rattle.std.specs.List.{insert};
 ghost use Rattle.vm_tree.specs.Slots.{held, IsDense};
 ghost use Rattle.vm_tree.specs.Outcomes.{IsGrown, IsNoted, IsSettled};
 
-use crate::entries::{Entries, Entry, FANOUT};
+use crate::entries::{Entries, Entry, FANOUT, MIN_CHILDREN};
 use crate::outcome::{Halves, Outcome, Settled, Upper};
 use crate::slots::{insert_slot, no_slots, split_slots};
 
-/// The children that are left in a node that is split.
-const HALF: usize = 8;
+/// Returns the number of children that a full node keeps when it is split to insert a child at the index `i`.
+///
+/// A child behind all others is likely to be split next, so the upper node gets few children then. If it is behind the
+/// first one, the lower node keeps few.
+fn kept(i: usize) -> usize
+    requires { i ≤ FANOUT }
+    ensures below { i ≤ result → (MIN_CHILDREN ≤ result + 1) × (result + MIN_CHILDREN ≤ FANOUT) }
+    ensures above { result < i → (MIN_CHILDREN ≤ result) × (result + MIN_CHILDREN ≤ FANOUT + 1) }
+{
+    if i == FANOUT {
+        return FANOUT + 1 - MIN_CHILDREN;
+    }
+    if i == 1 {
+        return MIN_CHILDREN - 1;
+    }
+    FANOUT / 2
+}
 
 /// Inserts a child at the index `i`. Returns true if the node was full: then its upper half is moved to
 /// `upper` and `upper_slots`.
@@ -32,7 +47,7 @@ fn add_child<C: Drop>(
     ensures held { held slots.new ++ held upper_slots.new ≡ insert (held slots.old) i child }
     ensures same { (length entries.new ≡ length (held slots.new)) × (length upper.new ≡ length (held upper_slots.new)) }
     ensures whole { result ≡ false → upper.new ≡ [] }
-    ensures halves { result ≡ true → (8 ≤ length entries.new) × (8 ≤ length upper.new) × (16 ≤ length entries.old) }
+    ensures halves { result ≡ true → (5 ≤ length entries.new) × (5 ≤ length upper.new) × (16 ≤ length entries.old) }
     ensures some { 0 < length entries.new }
 {
     let len = entries.len();
@@ -41,14 +56,15 @@ fn add_child<C: Drop>(
         insert_slot(slots, len, i, child);
         return false;
     }
-    entries.split_off(HALF, upper);
-    split_slots(slots, len, HALF, upper_slots);
-    if i <= HALF {
+    let at = kept(i);
+    entries.split_off(at, upper);
+    split_slots(slots, len, at, upper_slots);
+    if i <= at {
         entries.insert(i, entry);
-        insert_slot(slots, HALF, i, child);
+        insert_slot(slots, at, i, child);
     } else {
-        upper.insert(i - HALF, entry);
-        insert_slot(upper_slots, HALF, i - HALF, child);
+        upper.insert(i - at, entry);
+        insert_slot(upper_slots, len - at, i - at, child);
     }
     true
 }

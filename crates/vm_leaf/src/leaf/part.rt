@@ -20,7 +20,7 @@ impl vm_tree::Leaf for Leaf {
         Entry {
             at: self.start(),
             longest: sum.longest,
-            alignments: sum.alignments.into(),
+            alignments: sum.alignments,
         }
     }
 

@@ -1,6 +1,6 @@
 //! The runs of ids of a leaf.
-ghost use Rattle.std.specs.Prelude.{◌≡◌, true, None};
-ghost use Rattle.vm_list.specs.Entries.{entry_at};
+ghost use Rattle.std.specs.Prelude.{◌≡◌, IfSome};
+ghost use Rattle.vm_list.specs.Entries.{IsMissingAt};
 ghost use Rattle.vm_list.specs.Runs.{IsAlone, TakesLowest, last_of};
 
 use super::Chunk;
@@ -23,19 +23,20 @@ impl Chunk<Run> {
         Some(first)
     }
 
-    /// Returns true if an id is between two runs of the leaf, and next to none of them.
-    pub(crate) fn is_alone(&self, id: u32) -> bool
-        ensures alone { result ≡ true → IsAlone id self.now }
-        ensures new { result ≡ true → entry_at last_of id self.now ≡ None }
+    /// Returns the index at which the run of an id belongs, if a run is above it, and none is next to it.
+    pub(crate) fn alone_at(&self, id: u32) -> Option<usize>
+        ensures { IfSome result (λ at. IsAlone id self.now × IsMissingAt last_of id at self.now) }
     {
         let runs = self.entries.as_slice();
         let Err(at) = find(runs, id.into()) else {
-            return false;
+            return None;
         };
-        if at == 0 || at >= runs.len() {
-            return false;
+        if at == 0 || u64::from(runs[at - 1].first) <= u64::from(id) + 1 {
+            return None;
         }
-        let (above, below) = (runs[at - 1], runs[at]);
-        u64::from(id) + 1 < u64::from(above.first) && u64::from(below.last) + 1 < u64::from(id)
+        if at < runs.len() && u64::from(runs[at].last) + 1 >= u64::from(id) {
+            return None;
+        }
+        Some(at)
     }
 }

@@ -6,7 +6,7 @@ ghost use Rattle.vm_list.specs.Runs.{AddsId, LacksId, IsAlone, TakesLowest, last
 ghost use Rattle.vm_list.specs.Puts.{IsAddedAlone, IsCrowdedAlone, IsPopped};
 
 use super::KeyedList;
-use crate::chunk::{Chunk, MAX_ENTRIES, MIN_ENTRIES};
+use crate::chunk::{Chunk, MAX_ENTRIES, may_join};
 use crate::id_set::Run;
 use std::alloc::{AllocError, Global};
 use vm_tree::{Change, Cut, Cutting, Edit, Entry, Tree};
@@ -30,14 +30,15 @@ impl Cut<Chunk<Run>> for Pop {
         if self.taken.is_none() {
             return Cutting::Refused;
         }
-        if leaf.len() < before && leaf.len() < MIN_ENTRIES {
+        let len = leaf.len();
+        if len < before && may_join(len) {
             return Cutting::Small(vm_tree::Leaf::entry(leaf));
         }
         Cutting::Changed(vm_tree::Leaf::entry(leaf))
     }
 }
 
-/// Adds an id that is between two runs of a leaf, and next to none of them.
+/// Adds an id that has a run above it in a leaf, and is next to none.
 #[derive(Drop)]
 struct AddAlone {
     id: u32,
@@ -69,13 +70,13 @@ impl Edit<Chunk<Run>> for AddAlone {
     ghost lacks = { λ s c. Unit {0} };
 
     fn change(&mut self, leaf: &mut Chunk<Run>, _was: Entry) -> Change {
-        if !leaf.is_alone(self.id) {
+        let Some(at) = leaf.alone_at(self.id) else {
             return Change::Refused;
-        }
+        };
         if leaf.len() >= MAX_ENTRIES {
             return Change::Full;
         }
-        match leaf.insert(self.run()) {
+        match leaf.insert_at(at, self.run()) {
             Ok(()) => Change::Changed,
             Err(_) => Change::OutOfMemory,
         }
@@ -93,8 +94,8 @@ impl Edit<Chunk<Run>> for AddAlone {
     }
 }
 
-/// Adds an id that is between two runs of its leaf and next to none of them, and returns true. Returns false, and
-/// changes nothing, for any other id. An error changes nothing.
+/// Adds an id that has a run above it in its leaf and is next to none, and returns true. Returns false, and changes
+/// nothing, for any other id. An error changes nothing.
 fn add_alone(tree: &mut Tree<Chunk<Run>>, alloc: Global, id: u32) -> Result<bool, AllocError>
     requires some { 0 < length tree.old.leaves }
     requires order { IsDescendingBy last_of (items_of tree.old.leaves) }
@@ -114,8 +115,8 @@ fn add_alone(tree: &mut Tree<Chunk<Run>>, alloc: Global, id: u32) -> Result<bool
 }
 
 impl KeyedList<Run> {
-    /// Adds an id that is between two runs of its leaf and next to none of them, and returns true. It descends once.
-    /// Returns false, and changes nothing, for any other id. An error changes nothing.
+    /// Adds an id that has a run above it in its leaf and is next to none, and returns true. It descends once. Returns
+    /// false, and changes nothing, for any other id. An error changes nothing.
     pub(crate) fn add_alone(&mut self, alloc: Global, id: u32) -> Result<bool, AllocError>
         ensures added { IfOk result (λ done. done ≡ true → AddsId id true self.old self.new) }
         ensures refused { IfOk result (λ done. done ≡ false → self.new ≡ self.old) }

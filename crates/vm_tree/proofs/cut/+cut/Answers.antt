@@ -7,7 +7,7 @@ use Rattle.vm_tree.specs.Mends.{NoJoin}
 use Rattle.vm_tree.specs.Shrinks.{JoinsIf, MeetsAfter, ShrankAt}
 use Rattle.vm_tree.proofs.Flats.{length-entries, nth-entries, full_at}
 use Rattle.vm_tree.proofs.Unders.{front_leaf}
-use Rattle.vm_tree.proofs.Shrinking.{uncut_over, uncut, same_over, same, full_over_set, full, small_entries, small_length, child_meets, small_over, small_some, small, join_before, node_pair, node_height, beside_suc}
+use Rattle.vm_tree.proofs.Shrinking.{uncut_over, uncut, same_over, same, begun_over, begun, full_over_set, full, small_entries, small_length, child_meets, small_over, small_some, small, join_before, node_pair, node_height, beside_suc}
 use Rattle.vm_tree.specs.declared.node.Kids.{Kids}
 use Rattle.vm_tree.proofs.Below.{at}
 use Rattle.vm_tree.proofs.Cuts.{shrank_at}
@@ -48,6 +48,22 @@ cut_nodes-returns-in-Same-clause-shrank g t c =
     let n : length c.args.entries.now ≡ length ss = ap length o.entries ∙ length-entries g.L.Leaf.entry ss in
     let k : length ss ≡ length (held c.args.slots.now) = length-map (held c.args.slots.now) node_tree in
     same g.L.Leaf.entry g.L.Leaf.enough c.args.key _ _ (JoinsIf (g.E.Cut.shrinks c.args.edit.now) g.L.Leaf.joins) (JoinsIf (g.E.Cut.shrinks c.args.edit.now) g.L.Leaf.joins) node_tree 2 c.args.i ss o.even (omega (arith, n, c.requires.within)) o.deep (omega (arith, o.deep)) c.args.entries.now o.entries c.requires.from c.requires.upto (λ x y zs q. q) c.cut_node_at.new.slots c.cut_node_at.ensures.dense (subst (ShrankAt g.L.Leaf.entry g.L.Leaf.enough (JoinsIf (g.E.Cut.shrinks c.args.edit.now) g.L.Leaf.joins) c.args.key _ _ c.args.i ss (map node_tree (held c.cut_node_at.new.slots))) c.in-Same.is c.cut_node_at.ensures.shrank)
+
+pub cut_nodes-returns-in-Begins-clause-over : goal.cut_nodes-returns-in-Begins-clause-over
+cut_nodes-returns-in-Begins-clause-over g t c =
+    let ss = map node_tree (held c.args.slots.now) in
+    let o = c.requires.over in
+    let n : length c.args.entries.now ≡ length ss = ap length o.entries ∙ length-entries g.L.Leaf.entry ss in
+    let k : length ss ≡ length (held c.args.slots.now) = length-map (held c.args.slots.now) node_tree in
+    begun_over g.L.Leaf.entry g.L.Leaf.enough c.args.key _ _ (JoinsIf (g.E.Cut.shrinks c.args.edit.now) g.L.Leaf.joins) (JoinsIf (g.E.Cut.shrinks c.args.edit.now) g.L.Leaf.joins) node_tree 2 c.args.i ss o.even (omega (arith, n, c.requires.within)) o.deep (omega (arith, o.deep)) c.args.entries.now o.entries c.requires.from c.requires.upto (λ x y zs q. q) c.cut_node_at.new.slots c.cut_node_at.ensures.dense _ _ (subst (ShrankAt g.L.Leaf.entry g.L.Leaf.enough (JoinsIf (g.E.Cut.shrinks c.args.edit.now) g.L.Leaf.joins) c.args.key _ _ c.args.i ss (map node_tree (held c.cut_node_at.new.slots))) c.in-Begins.is c.cut_node_at.ensures.shrank) c.begin_at.ensures.entries
+
+pub cut_nodes-returns-in-Begins-clause-shrank : goal.cut_nodes-returns-in-Begins-clause-shrank
+cut_nodes-returns-in-Begins-clause-shrank g t c =
+    let ss = map node_tree (held c.args.slots.now) in
+    let o = c.requires.over in
+    let n : length c.args.entries.now ≡ length ss = ap length o.entries ∙ length-entries g.L.Leaf.entry ss in
+    let k : length ss ≡ length (held c.args.slots.now) = length-map (held c.args.slots.now) node_tree in
+    begun g.L.Leaf.entry g.L.Leaf.enough c.args.key _ _ (JoinsIf (g.E.Cut.shrinks c.args.edit.now) g.L.Leaf.joins) (JoinsIf (g.E.Cut.shrinks c.args.edit.now) g.L.Leaf.joins) node_tree 2 c.args.i ss o.even (omega (arith, n, c.requires.within)) o.deep (omega (arith, o.deep)) c.args.entries.now o.entries c.requires.from c.requires.upto (λ x y zs q. q) c.cut_node_at.new.slots c.cut_node_at.ensures.dense _ _ (subst (ShrankAt g.L.Leaf.entry g.L.Leaf.enough (JoinsIf (g.E.Cut.shrinks c.args.edit.now) g.L.Leaf.joins) c.args.key _ _ c.args.i ss (map node_tree (held c.cut_node_at.new.slots))) c.in-Begins.is c.cut_node_at.ensures.shrank) c.begin_at.ensures.entries _ c.begin_at.ensures.begun
 
 pub cut_nodes-returns-in-Changed-clause-over : goal.cut_nodes-returns-in-Changed-clause-over
 cut_nodes-returns-in-Changed-clause-over g t c =
@@ -146,6 +162,17 @@ cut_nodes-returns-in-Refused-clause-count g t c =
 
 pub cut_nodes-returns-in-Same-clause-count : goal.cut_nodes-returns-in-Same-clause-count
 cut_nodes-returns-in-Same-clause-count g t c =
+    let ss = map node_tree (held c.args.slots.now) in
+    let o = c.requires.over in
+    let n : length c.args.entries.now ≡ length ss = ap length o.entries ∙ length-entries g.L.Leaf.entry ss in
+    let k : length ss ≡ length (held c.args.slots.now) = length-map (held c.args.slots.now) node_tree in
+    let f = full_at g.L.Leaf.enough (front ss) ss c.args.i o.even (omega (arith, n, c.requires.within)) in
+    let h : (nth_tree ss c.args.i).height ≡ front ss = f.height in
+    let x = c.cut_node_at.ensures.count in
+    record { upto = omega (arith, x, h); from = omega (arith, x, h) }
+
+pub cut_nodes-returns-in-Begins-clause-count : goal.cut_nodes-returns-in-Begins-clause-count
+cut_nodes-returns-in-Begins-clause-count g t c =
     let ss = map node_tree (held c.args.slots.now) in
     let o = c.requires.over in
     let n : length c.args.entries.now ≡ length ss = ap length o.entries ∙ length-entries g.L.Leaf.entry ss in

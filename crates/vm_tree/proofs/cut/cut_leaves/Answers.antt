@@ -7,7 +7,7 @@ use Rattle.vm_tree.specs.Mends.{NoJoin}
 use Rattle.vm_tree.specs.Shrinks.{JoinsIf, ShrankAt}
 use Rattle.vm_tree.proofs.Flats.{length-entries}
 use Rattle.vm_tree.proofs.Unders.{front_leaf}
-use Rattle.vm_tree.proofs.Shrinking.{uncut_over, uncut, same_over, same, full_over_set, full, small_entries, small_length, small_meet, plain, small_over, small_some, small, join_after, leaf_pair, beside_suc}
+use Rattle.vm_tree.proofs.Shrinking.{uncut_over, uncut, same_over, same, begun_over, begun, full_over_set, full, small_entries, small_length, small_meet, plain, small_over, small_some, small, join_after, leaf_pair, beside_suc}
 use Rattle.vm_tree.proofs.Finds.{kid_entry}
 use Rattle.vm_tree.proofs.cut.cut_leaves.Goals as goal
 
@@ -46,6 +46,24 @@ returns-in-Same-clause-shrank g c =
     let k : length ss ≡ length (held c.args.slots.now) = length-map (held c.args.slots.now) leaf_tree in
     let h : front ss ≡ 1 = front_leaf (held c.args.slots.now) (omega (arith, n, k, c.requires.within)) in
     same g.L.Leaf.entry g.L.Leaf.enough c.args.key _ _ NoJoin (JoinsIf (g.E.Cut.shrinks c.args.edit.now) g.L.Leaf.joins) leaf_tree 0 c.args.i ss o.even (omega (arith, n, c.requires.within)) (omega arith) (omega (arith, h)) c.args.entries.now o.entries c.requires.from c.requires.upto (λ x y zs q. absurd q) c.cut_leaf_at.new.slots c.cut_leaf_at.ensures.dense (subst (ShrankAt g.L.Leaf.entry g.L.Leaf.enough NoJoin c.args.key _ _ c.args.i ss (map leaf_tree (held c.cut_leaf_at.new.slots))) c.in-Same.is (c.cut_leaf_at.ensures.shrank c.args.key))
+
+pub returns-in-Begins-clause-over : goal.returns-in-Begins-clause-over
+returns-in-Begins-clause-over g c =
+    let ss = map leaf_tree (held c.args.slots.now) in
+    let o = c.requires.over in
+    let n : length c.args.entries.now ≡ length ss = ap length o.entries ∙ length-entries g.L.Leaf.entry ss in
+    let k : length ss ≡ length (held c.args.slots.now) = length-map (held c.args.slots.now) leaf_tree in
+    let h : front ss ≡ 1 = front_leaf (held c.args.slots.now) (omega (arith, n, k, c.requires.within)) in
+    begun_over g.L.Leaf.entry g.L.Leaf.enough c.args.key _ _ NoJoin (JoinsIf (g.E.Cut.shrinks c.args.edit.now) g.L.Leaf.joins) leaf_tree 0 c.args.i ss o.even (omega (arith, n, c.requires.within)) (omega arith) (omega (arith, h)) c.args.entries.now o.entries c.requires.from c.requires.upto (λ x y zs q. absurd q) c.cut_leaf_at.new.slots c.cut_leaf_at.ensures.dense _ _ (subst (ShrankAt g.L.Leaf.entry g.L.Leaf.enough NoJoin c.args.key _ _ c.args.i ss (map leaf_tree (held c.cut_leaf_at.new.slots))) c.in-Begins.is (c.cut_leaf_at.ensures.shrank c.args.key)) c.begin_at.ensures.entries
+
+pub returns-in-Begins-clause-shrank : goal.returns-in-Begins-clause-shrank
+returns-in-Begins-clause-shrank g c =
+    let ss = map leaf_tree (held c.args.slots.now) in
+    let o = c.requires.over in
+    let n : length c.args.entries.now ≡ length ss = ap length o.entries ∙ length-entries g.L.Leaf.entry ss in
+    let k : length ss ≡ length (held c.args.slots.now) = length-map (held c.args.slots.now) leaf_tree in
+    let h : front ss ≡ 1 = front_leaf (held c.args.slots.now) (omega (arith, n, k, c.requires.within)) in
+    begun g.L.Leaf.entry g.L.Leaf.enough c.args.key _ _ NoJoin (JoinsIf (g.E.Cut.shrinks c.args.edit.now) g.L.Leaf.joins) leaf_tree 0 c.args.i ss o.even (omega (arith, n, c.requires.within)) (omega arith) (omega (arith, h)) c.args.entries.now o.entries c.requires.from c.requires.upto (λ x y zs q. absurd q) c.cut_leaf_at.new.slots c.cut_leaf_at.ensures.dense _ _ (subst (ShrankAt g.L.Leaf.entry g.L.Leaf.enough NoJoin c.args.key _ _ c.args.i ss (map leaf_tree (held c.cut_leaf_at.new.slots))) c.in-Begins.is (c.cut_leaf_at.ensures.shrank c.args.key)) c.begin_at.ensures.entries _ c.begin_at.ensures.begun
 
 pub returns-in-Changed-clause-over : goal.returns-in-Changed-clause-over
 returns-in-Changed-clause-over g c =

@@ -15,8 +15,14 @@ pub(in crate::proved::vm_list) const MAX_ENTRIES: usize = 64;
 /// The maximum number of entries of a leaf after a join.
 const MAX_JOINED: usize = 48;
 
-/// The number of entries below which a leaf is joined with one next to it, if both fit in one.
-pub(in crate::proved::vm_list) const MIN_ENTRIES: usize = 16;
+/// The minimum number of entries of both parts of a leaf that is split.
+const MIN_ENTRIES: usize = 16;
+
+/// Returns true if a leaf with this number of entries is to be joined with one next to it, if both fit in one. They
+/// are tried again after half of the entries are gone.
+pub(in crate::proved::vm_list) fn may_join(len: usize) -> bool {
+    matches!(len, 0 | 1 | 3 | 7 | 15)
+}
 
 /// Entries in descending order of their keys.
 ///
@@ -148,12 +154,14 @@ impl<E: Keyed> Chunk<E> {
         Some(&self.entries[at])
     }
 
-    /// Puts an entry in the place of the one with its key, which is returned. Returns the entry if there is none.
-    pub(in crate::proved) fn replace(&mut self, entry: E) -> Result<E, E> {
-        match find(self.entries.as_slice(), entry.key()) {
-            Ok(at) => Ok(mem::replace(&mut self.entries[at], entry)),
-            Err(_) => Err(entry),
-        }
+    /// Returns the index of the entry with this key, or the index at which such an entry belongs.
+    pub(in crate::proved::vm_list) fn find(&self, key: u64) -> Result<usize, usize> {
+        find(self.entries.as_slice(), key)
+    }
+
+    /// Puts an entry in the place of the one with its key, which is at this index and is returned.
+    pub(in crate::proved::vm_list) fn replace_at(&mut self, at: usize, entry: E) -> E {
+        mem::replace(&mut self.entries[at], entry)
     }
 
     /// Puts an entry with a lower key in the place of the one with this key, which is returned. Returns the entry if
@@ -165,9 +173,16 @@ impl<E: Keyed> Chunk<E> {
         }
     }
 
-    /// Inserts an entry with a new key. An error changes nothing and returns the entry.
-    pub(in crate::proved) fn insert(&mut self, entry: E) -> Result<(), AllocFailed<E>> {
-        insert_in(&mut self.entries, entry)
+    /// Inserts an entry with a new key at the index at which it belongs. An error changes nothing and returns the entry.
+    pub(in crate::proved::vm_list) fn insert_at(
+        &mut self,
+        at: usize,
+        entry: E,
+    ) -> Result<(), AllocFailed<E>> {
+        if let Err(failed) = self.entries.insert(at, entry) {
+            return Err(failed);
+        }
+        Ok(())
     }
 
     /// Inserts an entry with a new key, and moves the upper part to a new leaf. An error changes nothing and returns

@@ -2,7 +2,7 @@
 
 //! A list of entries as a leaf of a tree, and its changes.
 
-use crate::proved::vm_list::chunk::{Chunk, MAX_ENTRIES, MIN_ENTRIES};
+use crate::proved::vm_list::chunk::{may_join, Chunk, MAX_ENTRIES};
 use crate::proved::vm_list::Keyed;
 use crate::proved::vm_tree::{Change, CopyLeaf, Cut, Cutting, Edit, Entry, Leaf};
 use crate::rattle::Box;
@@ -39,16 +39,16 @@ impl<E: Keyed> Edit<Chunk<E>> for Put<E> {
         let Some(entry) = self.entry.take() else {
             return Change::Refused;
         };
-        match leaf.replace(entry) {
-            Ok(old) => {
-                self.old = Some(old);
+        match leaf.find(entry.key()) {
+            Ok(at) => {
+                self.old = Some(leaf.replace_at(at, entry));
                 Change::Changed
             }
-            Err(entry) if leaf.len() >= MAX_ENTRIES => {
+            Err(_) if leaf.len() >= MAX_ENTRIES => {
                 self.entry = Some(entry);
                 Change::Full
             }
-            Err(entry) => match leaf.insert(entry) {
+            Err(at) => match leaf.insert_at(at, entry) {
                 Ok(()) => {
                     self.old = None;
                     Change::Changed
@@ -89,7 +89,7 @@ impl<E: Keyed> Cut<Chunk<E>> for TakeOut<E> {
         match leaf.remove(self.key) {
             Some(entry) => {
                 self.taken = Some(entry);
-                if leaf.len() < MIN_ENTRIES {
+                if may_join(leaf.len()) {
                     Cutting::Small(leaf.entry())
                 } else {
                     Cutting::Changed(leaf.entry())

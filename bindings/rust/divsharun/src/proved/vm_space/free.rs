@@ -33,7 +33,7 @@ fn with_gap(was: &Entry, gap: &RangeInclusive) -> Entry {
     Entry {
         at: was.at,
         longest: was.longest.max(sum.longest),
-        alignments: was.alignments.max(sum.alignments.into()),
+        alignments: was.alignments.max(sum.alignments),
     }
 }
 

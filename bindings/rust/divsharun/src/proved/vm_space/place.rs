@@ -71,6 +71,6 @@ pub(in crate::proved::vm_space) fn take_place(leaf: &mut Leaf, place: &Place, wa
     let gap = Summary::of_gap(&place.gap);
     leaf.reaches(
         to_be_left(gap.longest, was.longest),
-        to_be_left(gap.alignments.into(), was.alignments),
+        to_be_left(gap.alignments.into(), was.alignments.into()),
     )
 }

@@ -72,14 +72,24 @@ pub(in crate::proved::vm_tree) fn greatest_in(items: &[u64; FANOUT]) -> u64 {
     most
 }
 
+/// Returns the greatest of small items.
+#[inline(always)]
+pub(in crate::proved::vm_tree) fn most_in(items: &[u8; FANOUT]) -> u8 {
+    let mut most = 0;
+    for i in 0..FANOUT {
+        most = most.max(items[i]);
+    }
+    most
+}
+
 /// Moves the items from `at` on to the start of another array, which is all pads.
 #[inline(always)]
-pub(in crate::proved::vm_tree) fn split_in(
-    items: &mut [u64; FANOUT],
+pub(in crate::proved::vm_tree) fn split_in<T: Copy>(
+    items: &mut [T; FANOUT],
     len: usize,
     at: usize,
-    upper: &mut [u64; FANOUT],
-    pad: u64,
+    upper: &mut [T; FANOUT],
+    pad: T,
 ) {
     let from = &mut items[..];
     let to = &mut upper[..];

@@ -2,8 +2,7 @@
 
 //! A change of one leaf that leaves it fewer items, and what it changes above it.
 
-use crate::proved::vm_tree::entries::{Entries, Entry, FANOUT, MOST};
-use crate::proved::vm_tree::grow::is_same;
+use crate::proved::vm_tree::entries::{Entries, Entry, FANOUT, MIN_CHILDREN, MOST};
 use crate::proved::vm_tree::leaf::Leaf;
 use crate::proved::vm_tree::mend::{mend_leaves, mend_nodes};
 use crate::proved::vm_tree::node::{Kids, Node};
@@ -35,6 +34,8 @@ pub(in crate::proved::vm_tree) enum Shrunk {
     Refused,
     /// What is stored beside the child is as before.
     Same,
+    /// The child begins at this address now. The rest of its entry is as before.
+    Begins(u64),
     /// The child has this entry now.
     Changed(Entry),
     /// The child has this entry now, and may be too small.
@@ -67,17 +68,21 @@ pub(in crate::proved::vm_tree) fn cut_root<L: Leaf, E: Cut<L>>(leaf: &mut L, edi
     }
 }
 
-/// Returns `Same` if the entry of a child is as before.
+/// Returns `Same` if the entry of a child is as before, and `Begins` if only its first address is not.
 #[inline(always)]
 fn quiet(outcome: Shrunk, was: Entry) -> Shrunk {
     match outcome {
         Shrunk::Refused => Shrunk::Refused,
         Shrunk::Same => Shrunk::Same,
+        Shrunk::Begins(at) => Shrunk::Begins(at),
         Shrunk::Changed(entry) => {
-            if is_same(&entry, &was) {
-                return Shrunk::Same;
+            if entry.longest != was.longest || entry.alignments != was.alignments {
+                return Shrunk::Changed(entry);
             }
-            Shrunk::Changed(entry)
+            if entry.at != was.at {
+                return Shrunk::Begins(entry.at);
+            }
+            Shrunk::Same
         }
         Shrunk::Small(entry) => Shrunk::Small(entry),
     }
@@ -112,8 +117,15 @@ fn neighbour(i: usize) -> usize {
     }
 }
 
-/// The minimum number of children of a node that is no root.
-const MIN_CHILDREN: usize = 5;
+/// Writes the first address of the child `i`. The node begins there if the child is its first one.
+#[inline(always)]
+fn begin_at(entries: &mut Entries, i: usize, at: u64) -> Shrunk {
+    entries.set_at(i, at);
+    if i > 0 {
+        return Shrunk::Same;
+    }
+    Shrunk::Begins(at)
+}
 
 /// Returns what became of a node that has these entries.
 fn small_of(entries: &Entries) -> Shrunk {
@@ -138,6 +150,7 @@ fn cut_leaves<L: Leaf, E: Cut<L>>(
     match cut_leaf_at(slots, i, was, edit, count) {
         Shrunk::Refused => Shrunk::Refused,
         Shrunk::Same => Shrunk::Same,
+        Shrunk::Begins(at) => begin_at(entries, i, at),
         Shrunk::Changed(entry) => {
             entries.set_entry(i, entry);
             Shrunk::Changed(entries.sum())
@@ -184,6 +197,7 @@ fn cut_nodes<L: Leaf, E: Cut<L>>(
     match cut_node_at(slots, i, was, key, edit, count) {
         Shrunk::Refused => Shrunk::Refused,
         Shrunk::Same => Shrunk::Same,
+        Shrunk::Begins(at) => begin_at(entries, i, at),
         Shrunk::Changed(entry) => {
             entries.set_entry(i, entry);
             Shrunk::Changed(entries.sum())

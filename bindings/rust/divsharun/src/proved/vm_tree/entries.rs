@@ -3,25 +3,28 @@
 //! What is stored beside the children of a node.
 
 use crate::proved::vm_tree::columns::{
-    append_in, greatest_in, insert_in, last_up_to, remove_in, split_in,
+    append_in, greatest_in, insert_in, last_up_to, most_in, remove_in, split_in,
 };
 
 /// The maximum number of children.
 pub(in crate::proved) const FANOUT: usize = 16;
+
+/// The minimum number of children of a node that is no root.
+pub(in crate::proved::vm_tree) const MIN_CHILDREN: usize = 5;
 
 /// What is stored beside a child: its first address, and the summary of its gaps.
 #[derive(Clone, Copy, Debug)]
 pub(in crate::proved) struct Entry {
     pub(in crate::proved) at: u64,
     pub(in crate::proved) longest: u64,
-    pub(in crate::proved) alignments: u64,
+    pub(in crate::proved) alignments: u8,
 }
 
 /// No entry is above it. A change of a root is told it, because no entry of a root is stored.
 pub(in crate::proved::vm_tree) const MOST: Entry = Entry {
     at: 0,
     longest: u64::MAX,
-    alignments: u64::MAX,
+    alignments: 64,
 };
 
 /// The entries of up to `FANOUT` children, each part in an array.
@@ -30,7 +33,7 @@ pub(in crate::proved::vm_tree) const MOST: Entry = Entry {
 pub(in crate::proved) struct Entries {
     at: [u64; FANOUT],
     longest: [u64; FANOUT],
-    alignments: [u64; FANOUT],
+    alignments: [u8; FANOUT],
     len: usize,
 }
 
@@ -79,6 +82,13 @@ impl Entries {
         self.at[i] = entry.at;
         self.longest[i] = entry.longest;
         self.alignments[i] = entry.alignments;
+    }
+
+    /// Writes the first address of an entry.
+    #[inline(always)]
+    pub(in crate::proved::vm_tree) fn set_at(&mut self, i: usize, at: u64) {
+        let _len = self.len;
+        self.at[i] = at;
     }
 
     /// Inserts an entry.
@@ -144,9 +154,9 @@ impl Entries {
 
     /// Returns the most alignments.
     #[inline(always)]
-    pub(in crate::proved) fn alignments(&self) -> u64 {
+    pub(in crate::proved) fn alignments(&self) -> u8 {
         let _len = self.len;
-        greatest_in(&self.alignments)
+        most_in(&self.alignments)
     }
 
     /// Returns the entry of all of these together.

@@ -2,13 +2,24 @@
 
 //! A child is added to a node, which is split if it is full.
 
-use crate::proved::vm_tree::entries::{Entries, Entry, FANOUT};
+use crate::proved::vm_tree::entries::{Entries, Entry, FANOUT, MIN_CHILDREN};
 use crate::proved::vm_tree::outcome::{Halves, Outcome, Settled, Upper};
 use crate::proved::vm_tree::slots::{insert_slot, no_slots, split_slots};
 use crate::rattle::Box;
 
-/// The children that are left in a node that is split.
-const HALF: usize = 8;
+/// Returns the number of children that a full node keeps when it is split to insert a child at the index `i`.
+///
+/// A child behind all others is likely to be split next, so the upper node gets few children then. If it is behind the
+/// first one, the lower node keeps few.
+fn kept(i: usize) -> usize {
+    if i == FANOUT {
+        return FANOUT + 1 - MIN_CHILDREN;
+    }
+    if i == 1 {
+        return MIN_CHILDREN - 1;
+    }
+    FANOUT / 2
+}
 
 /// Inserts a child at the index `i`. Returns true if the node was full: then its upper half is moved to
 /// `upper` and `upper_slots`.
@@ -27,14 +38,15 @@ fn add_child<C>(
         insert_slot(slots, len, i, child);
         return false;
     }
-    entries.split_off(HALF, upper);
-    split_slots(slots, len, HALF, upper_slots);
-    if i <= HALF {
+    let at = kept(i);
+    entries.split_off(at, upper);
+    split_slots(slots, len, at, upper_slots);
+    if i <= at {
         entries.insert(i, entry);
-        insert_slot(slots, HALF, i, child);
+        insert_slot(slots, at, i, child);
     } else {
-        upper.insert(i - HALF, entry);
-        insert_slot(upper_slots, HALF, i - HALF, child);
+        upper.insert(i - at, entry);
+        insert_slot(upper_slots, len - at, i - at, child);
     }
     true
 }

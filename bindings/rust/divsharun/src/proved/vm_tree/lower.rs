@@ -15,6 +15,7 @@ fn has_shrunk(outcome: &Shrunk) -> bool {
     match outcome {
         Shrunk::Refused => false,
         Shrunk::Same => true,
+        Shrunk::Begins(_) => true,
         Shrunk::Changed(_) => true,
         Shrunk::Small(_) => true,
     }

@@ -2,20 +2,21 @@
 
 //! Changes at the ends of a leaf, and blocks that move between neighbouring leaves.
 
-use super::{clear, cut_before, low_part, remove_between, Leaf, Rest, CAPACITY, MIN_BLOCKS};
+use super::{clear, cut_before, low_part, remove_between, Leaf, Rest, MIN_BLOCKS};
 use crate::proved::vm_ranges::RangeInclusive;
 
-/// Returns the number of blocks that a full leaf keeps when it is split to allocate a range of the gap `i`.
+/// Returns the number of blocks that a full leaf keeps when it is split to allocate a range of the gap `i`, of which
+/// `added` parts stay free.
 ///
-/// The gap is likely to be split again. If it is the last block, the upper leaf therefore gets few blocks. If
-/// it is the first block, the lower leaf keeps few blocks.
+/// The gap is likely to be split again. If it is the last block, the upper leaf therefore gets `MIN_BLOCKS`. If it is
+/// the first block, the lower leaf keeps so many.
 #[inline(always)]
-fn kept(i: usize, len: usize) -> usize {
+fn kept(i: usize, len: usize, added: usize) -> usize {
     if i + 1 == len {
-        return CAPACITY - MIN_BLOCKS;
+        return len + added - MIN_BLOCKS;
     }
     if i == 0 {
-        return MIN_BLOCKS;
+        return MIN_BLOCKS - added;
     }
     len / 2
 }
@@ -76,7 +77,7 @@ impl Leaf {
         rest: Rest,
         upper: &mut Leaf,
     ) {
-        let at = kept(i, self.len());
+        let at = kept(i, self.len(), rest.added() as usize);
         *upper = self.split_off(at);
         if i < at {
             self.split(i, range, rest);

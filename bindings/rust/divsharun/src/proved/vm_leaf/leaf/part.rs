@@ -14,7 +14,7 @@ impl crate::proved::vm_tree::Leaf for Leaf {
         Entry {
             at: self.start(),
             longest: sum.longest,
-            alignments: sum.alignments.into(),
+            alignments: sum.alignments,
         }
     }
 

@@ -20,16 +20,18 @@ impl Chunk<Run> {
         Some(first)
     }
 
-    /// Returns true if an id is between two runs of the leaf, and next to none of them.
-    pub(in crate::proved::vm_list) fn is_alone(&self, id: u32) -> bool {
+    /// Returns the index at which the run of an id belongs, if a run is above it, and none is next to it.
+    pub(in crate::proved::vm_list) fn alone_at(&self, id: u32) -> Option<usize> {
         let runs = self.entries.as_slice();
         let Err(at) = find(runs, id.into()) else {
-            return false;
+            return None;
         };
-        if at == 0 || at >= runs.len() {
-            return false;
+        if at == 0 || u64::from(runs[at - 1].first) <= u64::from(id) + 1 {
+            return None;
         }
-        let (above, below) = (runs[at - 1], runs[at]);
-        u64::from(id) + 1 < u64::from(above.first) && u64::from(below.last) + 1 < u64::from(id)
+        if at < runs.len() && u64::from(runs[at].last) + 1 >= u64::from(id) {
+            return None;
+        }
+        Some(at)
     }
 }

@@ -3,7 +3,7 @@
 //! The runs of ids of a list.
 
 use super::KeyedList;
-use crate::proved::vm_list::chunk::{Chunk, MAX_ENTRIES, MIN_ENTRIES};
+use crate::proved::vm_list::chunk::{may_join, Chunk, MAX_ENTRIES};
 use crate::proved::vm_list::id_set::Run;
 use crate::proved::vm_tree::{Change, Cut, Cutting, Edit, Entry, Tree};
 use crate::rattle::Box;
@@ -21,14 +21,15 @@ impl Cut<Chunk<Run>> for Pop {
         if self.taken.is_none() {
             return Cutting::Refused;
         }
-        if leaf.len() < before && leaf.len() < MIN_ENTRIES {
+        let len = leaf.len();
+        if len < before && may_join(len) {
             return Cutting::Small(crate::proved::vm_tree::Leaf::entry(leaf));
         }
         Cutting::Changed(crate::proved::vm_tree::Leaf::entry(leaf))
     }
 }
 
-/// Adds an id that is between two runs of a leaf, and next to none of them.
+/// Adds an id that has a run above it in a leaf, and is next to none.
 struct AddAlone {
     id: u32,
 }
@@ -45,13 +46,13 @@ impl AddAlone {
 
 impl Edit<Chunk<Run>> for AddAlone {
     fn change(&mut self, leaf: &mut Chunk<Run>, _was: Entry) -> Change {
-        if !leaf.is_alone(self.id) {
+        let Some(at) = leaf.alone_at(self.id) else {
             return Change::Refused;
-        }
+        };
         if leaf.len() >= MAX_ENTRIES {
             return Change::Full;
         }
-        match leaf.insert(self.run()) {
+        match leaf.insert_at(at, self.run()) {
             Ok(()) => Change::Changed,
             Err(_) => Change::OutOfMemory,
         }
@@ -69,8 +70,8 @@ impl Edit<Chunk<Run>> for AddAlone {
     }
 }
 
-/// Adds an id that is between two runs of its leaf and next to none of them, and returns true. Returns false, and
-/// changes nothing, for any other id. An error changes nothing.
+/// Adds an id that has a run above it in its leaf and is next to none, and returns true. Returns false, and changes
+/// nothing, for any other id. An error changes nothing.
 fn add_alone(tree: &mut Tree<Chunk<Run>>, alloc: Global, id: u32) -> Result<bool, AllocError> {
     tree.facts();
     let mut add = AddAlone { id };
@@ -82,8 +83,8 @@ fn add_alone(tree: &mut Tree<Chunk<Run>>, alloc: Global, id: u32) -> Result<bool
 }
 
 impl KeyedList<Run> {
-    /// Adds an id that is between two runs of its leaf and next to none of them, and returns true. It descends once.
-    /// Returns false, and changes nothing, for any other id. An error changes nothing.
+    /// Adds an id that has a run above it in its leaf and is next to none, and returns true. It descends once. Returns
+    /// false, and changes nothing, for any other id. An error changes nothing.
     pub(in crate::proved::vm_list) fn add_alone(
         &mut self,
         alloc: Global,
