@@ -606,7 +606,7 @@ fn no_request_is_made() {
 
 /// The bytes of a leaf and of an inner node.
 const LEAF: usize = 280;
-const NODE: usize = 528;
+const NODE: usize = 416;
 
 /// Returns the bytes of the tree that is built of this number of blocks, which has three levels.
 fn built(blocks: usize) -> usize {
@@ -641,13 +641,11 @@ fn lists_have_no_spare_bytes() {
     let (ranges, bytes) = peak_of(|| space.allocate_all(&requests));
     assert_eq!(ranges.map(|ranges| ranges.capacity()), Ok(COUNT));
     let items = 2 * size_of::<RangeInclusive>() + size_of::<Constraint>();
-    // The last leaf is split when it has 32 blocks and gets another one. It then has 13 of them. A full node that is split
-    // has 8 children then.
-    let leaves = (COUNT - 13) / 20;
-    assert_eq!(
-        bytes,
-        COUNT * items + leaves * LEAF + (leaves / 8 + 1) * NODE
-    );
+    // The last leaf is split when it has 32 blocks and gets another one. It then has 12 of them, and the others stay. A
+    // full node that is split at its end keeps 12 children.
+    let leaves = (COUNT - 12) / 21;
+    let nodes = (leaves - 4) / 12 + 2;
+    assert_eq!(bytes, COUNT * items + leaves * LEAF + nodes * NODE);
     let mut ids = IdAllocator::new(0, 2000).expect("ids");
     let (_, bytes) = peak_of(|| ids.allocate_ids(COUNT));
     assert_eq!(bytes, COUNT * size_of::<u32>());
@@ -657,12 +655,12 @@ fn lists_have_no_spare_bytes() {
     let (_, bytes) = peak_of(|| ids.clone());
     assert!(bytes < 100, "{bytes} bytes");
     // A copy has 40 bytes for each device in two lists, at most 2 for the leaves and nodes of each
-    // list, and at most 18 in the tree.
+    // list, and at most 16 in the tree.
     let mut devices = DeviceManager::new(0, COUNT as u32, 0, size).expect("a manager");
     let mut reserve = |request: &Constraint| devices.reserve_constraint(*request).is_ok();
     assert!(requests.iter().all(&mut reserve));
     let (_, bytes) = peak_of(|| devices.clone());
-    assert!(bytes < 62 * COUNT, "{bytes} bytes");
+    assert!(bytes < 60 * COUNT, "{bytes} bytes");
 }
 
 /// Checks that the first entry of a list allocates a leaf of 24 bytes and memory for 4 entries: of 24 bytes for
@@ -695,13 +693,13 @@ fn leaves_are_joined() {
 /// ten are freed in a random order, and the bytes for each range that is left are checked.
 fn ranges_take_few_bytes() {
     const COUNT: usize = 100_000;
-    for (distance, most) in [(1, 18), (2, 36)] {
+    for (distance, most) in [(1, 155), (2, 300)] {
         let mut full = AddressAllocator::new(0, 1 << 30).expect("a space");
         let starts = (0..COUNT as u64).map(|number| distance * number);
         let held = starts.map(|start| full.allocate(1, 1, ExactMatch(start)).expect("it is free"));
         let held: Vec<_> = held.collect();
         let (_, bytes) = peak_of(|| full.clone());
-        assert!(bytes <= most * COUNT, "{bytes} bytes");
+        assert!(10 * bytes <= most * COUNT, "{bytes} bytes");
         let mut shuffled = held.clone();
         let mut random = 1_u64;
         for last in (1..COUNT).rev() {
