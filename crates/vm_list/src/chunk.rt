@@ -39,11 +39,14 @@ pub(crate) const MAX_ENTRIES: usize = 64;
 /// The maximum number of entries of a leaf after a join.
 const MAX_JOINED: usize = 48;
 
-/// The minimum number of entries of both parts of a leaf that is split.
-const MIN_ENTRIES: usize = 16;
+/// The number of entries below which a leaf is joined with one next to it, if both fit in one.
+pub(crate) const MIN_ENTRIES: usize = 16;
 
-/// Returns true if a leaf with this number of entries is to be joined with one next to it, if both fit in one. They
-/// are tried again after half of the entries are gone.
+/// The minimum number of entries of both parts of a leaf that is split.
+const FEW_ENTRIES: usize = 4;
+
+/// Returns true for a few numbers below `MIN_ENTRIES`, so that a leaf of which the lowest ids are taken one after the
+/// other is not tried to be joined each time.
 pub(crate) fn may_join(len: usize) -> bool
     ensures { result ≡ false → 0 < len }
 {
@@ -94,15 +97,15 @@ fn insert_in<E: Keyed>(entries: &mut Vec<E>, entry: E) -> Result<(), AllocFailed
 fn upper_for<E: Keyed>(entries: &[E], key: u64) -> usize
     requires order { IsDescendingBy E.key_of entries.now }
     requires full { MAX_ENTRIES ≤ length entries.now }
-    ensures upper { MIN_ENTRIES ≤ result }
-    ensures lower { result + MIN_ENTRIES ≤ length entries.now }
+    ensures upper { FEW_ENTRIES ≤ result }
+    ensures lower { result + FEW_ENTRIES ≤ length entries.now }
 {
     let at = place(entries, key);
     if at == 0 {
-        return MIN_ENTRIES;
+        return FEW_ENTRIES;
     }
     if at == entries.len() {
-        return entries.len() - MIN_ENTRIES;
+        return entries.len() - FEW_ENTRIES;
     }
     entries.len() / 2
 }
@@ -161,8 +164,8 @@ fn divide<E: Keyed>(entries: &mut Vec<E>, entry: E) -> Result<Vec<E>, AllocFaile
     requires new { entry_at E.key_of (E.key_of entry) entries.old.items ≡ None }
     requires full { MAX_ENTRIES ≤ length entries.old.items }
     ensures put { IfOk result (λ lower. entries.new.items ++ lower.items ≡ with_entry E.key_of entry entries.old.items) }
-    ensures upper { OnOk result (MIN_ENTRIES ≤ length entries.new.items) }
-    ensures lower { IfOk result (λ lower. MIN_ENTRIES ≤ length lower.items) }
+    ensures upper { OnOk result (FEW_ENTRIES ≤ length entries.new.items) }
+    ensures lower { IfOk result (λ lower. FEW_ENTRIES ≤ length lower.items) }
     ensures order { IsDescendingBy E.key_of entries.new.items }
     ensures order_lower { IfOk result (λ lower. IsDescendingBy E.key_of lower.items) }
     ensures unchanged { OnErr result (entries.new.items ≡ entries.old.items) }
@@ -298,8 +301,8 @@ impl<E: Keyed> Chunk<E> {
         requires new { entry_at E.key_of (E.key_of entry) self.old ≡ None }
         requires full { MAX_ENTRIES ≤ length self.old }
         ensures put { IfOk result (λ upper. upper.value ++ self.new ≡ with_entry E.key_of entry self.old) }
-        ensures upper { IfOk result (λ upper. MIN_ENTRIES ≤ length upper.value) }
-        ensures lower { OnOk result (MIN_ENTRIES ≤ length self.new) }
+        ensures upper { IfOk result (λ upper. FEW_ENTRIES ≤ length upper.value) }
+        ensures lower { OnOk result (FEW_ENTRIES ≤ length self.new) }
         ensures unchanged { OnErr result (self.new ≡ self.old) }
         ensures returned { IfErr result (λ e. e.value ≡ entry) }
     {

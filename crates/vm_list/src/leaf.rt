@@ -5,7 +5,7 @@ ghost use Rattle.vm_list.specs.Puts.{IsPut, IsCrowded, IsTaken, IsLowered, IsNot
 ghost use Rattle.vm_list.specs.Entries.{entry_at};
 
 use crate::Keyed;
-use crate::chunk::{Chunk, MAX_ENTRIES, may_join};
+use crate::chunk::{Chunk, MAX_ENTRIES, MIN_ENTRIES};
 use std::alloc::{AllocError, Global};
 use vm_tree::{Change, CopyLeaf, Cut, Cutting, Edit, Entry, Leaf};
 
@@ -118,7 +118,7 @@ impl<E: Keyed> Cut<Chunk<E>> for TakeOut<E> {
         match leaf.remove(self.key) {
             Some(entry) => {
                 self.taken = Some(entry);
-                if may_join(leaf.len()) {
+                if leaf.len() < MIN_ENTRIES {
                     Cutting::Small(leaf.entry())
                 } else {
                     Cutting::Changed(leaf.entry())

@@ -280,6 +280,7 @@ fn main() {
     lists_have_no_spare_bytes();
     short_lists_take_few_bytes();
     leaves_are_joined();
+    freed_ids_take_few_bytes();
     ranges_take_few_bytes();
     processes_are_ended();
     println!("each allocation is counted, and failed in turn");
@@ -689,6 +690,34 @@ fn leaves_are_joined() {
     assert!(requests <= 3 * FIRST + 1, "{requests}");
 }
 
+/// Returns the items in a random order.
+fn shuffled<T: Clone>(items: &[T]) -> Vec<T> {
+    let mut items = items.to_vec();
+    let mut random = 1_u64;
+    for last in (1..items.len()).rev() {
+        random = random.wrapping_mul(6_364_136_223_846_793_005);
+        random = random.wrapping_add(1_442_695_040_888_963_407);
+        items.swap(last, (random >> 33) as usize % (last + 1));
+    }
+    items
+}
+
+/// Checks the bytes of a set of freed ids for each of 10^5 ids that are next to none, in three orders.
+fn freed_ids_take_few_bytes() {
+    const COUNT: u32 = 100_000;
+    let ascending: Vec<u32> = (0..COUNT).map(|number| 2 * number).collect();
+    let descending = ascending.iter().rev().copied().collect();
+    for order in [shuffled(&ascending), descending, ascending] {
+        let (_, bytes) = peak_of(|| {
+            let mut ids = IdAllocator::new(0, 2 * COUNT).expect("ids");
+            assert!((0..=2 * COUNT).all(|id| ids.allocate_id() == Ok(id)));
+            assert!(order.iter().all(|id| ids.free_id(*id).is_ok()));
+            ids
+        });
+        assert!(bytes <= 13 * order.len(), "{bytes} bytes");
+    }
+}
+
 /// Checks the bytes of a space for each of 10^5 ranges, side by side or with a gap after each. Then nine of
 /// ten are freed in a random order, and the bytes for each range that is left are checked.
 fn ranges_take_few_bytes() {
@@ -700,13 +729,7 @@ fn ranges_take_few_bytes() {
         let held: Vec<_> = held.collect();
         let (_, bytes) = peak_of(|| full.clone());
         assert!(10 * bytes <= most * COUNT, "{bytes} bytes");
-        let mut shuffled = held.clone();
-        let mut random = 1_u64;
-        for last in (1..COUNT).rev() {
-            random = random.wrapping_mul(6_364_136_223_846_793_005);
-            random = random.wrapping_add(1_442_695_040_888_963_407);
-            shuffled.swap(last, (random >> 33) as usize % (last + 1));
-        }
+        let shuffled = shuffled(&held);
         let tens = held.chunks(10);
         let ascending: Vec<_> = tens.flat_map(|ten| ten[1..].iter().copied()).collect();
         for freed in [&shuffled[COUNT / 10..], &ascending] {

@@ -15,11 +15,14 @@ pub(in crate::proved::vm_list) const MAX_ENTRIES: usize = 64;
 /// The maximum number of entries of a leaf after a join.
 const MAX_JOINED: usize = 48;
 
-/// The minimum number of entries of both parts of a leaf that is split.
-const MIN_ENTRIES: usize = 16;
+/// The number of entries below which a leaf is joined with one next to it, if both fit in one.
+pub(in crate::proved::vm_list) const MIN_ENTRIES: usize = 16;
 
-/// Returns true if a leaf with this number of entries is to be joined with one next to it, if both fit in one. They
-/// are tried again after half of the entries are gone.
+/// The minimum number of entries of both parts of a leaf that is split.
+const FEW_ENTRIES: usize = 4;
+
+/// Returns true for a few numbers below `MIN_ENTRIES`, so that a leaf of which the lowest ids are taken one after the
+/// other is not tried to be joined each time.
 pub(in crate::proved::vm_list) fn may_join(len: usize) -> bool {
     matches!(len, 0 | 1 | 3 | 7 | 15)
 }
@@ -47,10 +50,10 @@ fn insert_in<E: Keyed>(entries: &mut Vec<E>, entry: E) -> Result<(), AllocFailed
 fn upper_for<E: Keyed>(entries: &[E], key: u64) -> usize {
     let at = place(entries, key);
     if at == 0 {
-        return MIN_ENTRIES;
+        return FEW_ENTRIES;
     }
     if at == entries.len() {
-        return entries.len() - MIN_ENTRIES;
+        return entries.len() - FEW_ENTRIES;
     }
     entries.len() / 2
 }

@@ -2,7 +2,7 @@
 
 //! A list of entries as a leaf of a tree, and its changes.
 
-use crate::proved::vm_list::chunk::{may_join, Chunk, MAX_ENTRIES};
+use crate::proved::vm_list::chunk::{Chunk, MAX_ENTRIES, MIN_ENTRIES};
 use crate::proved::vm_list::Keyed;
 use crate::proved::vm_tree::{Change, CopyLeaf, Cut, Cutting, Edit, Entry, Leaf};
 use crate::rattle::Box;
@@ -89,7 +89,7 @@ impl<E: Keyed> Cut<Chunk<E>> for TakeOut<E> {
         match leaf.remove(self.key) {
             Some(entry) => {
                 self.taken = Some(entry);
-                if may_join(leaf.len()) {
+                if leaf.len() < MIN_ENTRIES {
                     Cutting::Small(leaf.entry())
                 } else {
                     Cutting::Changed(leaf.entry())
