@@ -1,4 +1,4 @@
--- What a tree stores beside a leaf of blocks.
+-- The entry of a leaf of blocks, which a tree stores beside it.
 use Rattle.std.specs.Prelude.{◌≡◌, ◌≤◌, ◌<◌, List, [], ◌∷◌, ◌++◌, length}
 use Rattle.vm_leaf.specs.declared.block.Block.{Block}
 use Rattle.vm_leaf.specs.declared.leaf.TheConstants.{CAPACITY, MIN_BLOCKS}
@@ -6,7 +6,7 @@ use Rattle.vm_leaf.specs.Blocks.{start_of, longest_gap, IsRun}
 use Rattle.vm_leaf.specs.Multiples.{most_alignments}
 use Rattle.vm_tree.specs.declared.entries.Entry.{Entry}
 
--- What is stored beside a leaf: its first address, and the summary of its gaps.
+-- The entry of a leaf: its first address, and the summary of its gaps.
 abbrev pub blocks_entry : List Block → Entry
 blocks_entry bs = record { at = start_of bs; longest = longest_gap bs; alignments = most_alignments bs }
 

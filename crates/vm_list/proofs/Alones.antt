@@ -133,5 +133,5 @@ module _ (id p : ℕ) (xs : List Run) (m : IsMissingAt last_of id p xs) (order :
           elim (cases_lt p k) [
             | inl o ↦ (let f = order p k d o l in let e = r d (omega (arith, o, l)) in omega (arith, f, e))
             | inr o ↦ (let e : k ≡ p = omega (arith, o, h) in let g = r d (omega (arith, e, l)) in
-              omega (arith, g, ap (λ n. last_of (get_or xs n d)) e))
+                omega (arith, g, ap (λ n. last_of (get_or xs n d)) e))
           ]

@@ -151,7 +151,7 @@ module _ {X : Type 0} where
           let m = home_mid key t cs ok r.before r.leaf r.after r.home in
           r.edit.entry ∙ sym (mid_entry key t (items_of cs) _ _ _ m)
 
-    -- What is left of the leaf meets its neighbours.
+    -- The rest of the leaf meets its neighbours.
     pub meets_after : (before : List (List X)) (leaf : List X) (after leaves : List (List X)) (taken : Option X) → IsHome (leaf_entry key) t cs before leaf after
         → IsTaken key t taken leaf leaves → Meet (Meets key) (before ++ (leaves ++ after))
     meets_after before leaf after leaves taken h s =

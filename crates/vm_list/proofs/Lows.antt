@@ -17,7 +17,7 @@ module _ {X : Type 0} (key : X → ℕ) where
   pub lowest_push : (xs ys : List X) (x : X) → ys ≡ xs ++ x ∷ [] → key x ≡ lowest_key key ys
   lowest_push xs ys x e = rw e (rw (lowest_append xs (x ∷ []) (omega arith)))
 
-  -- What is true of each key is true of it.
+  -- A fact of each key is one of the lowest.
   pub lowest_of : (P : ℕ → Type 0) (xs : List X) → 0 < length xs → AllOf (λ x. P (key x)) xs → P (lowest_key key xs)
   lowest_of P [] l a = absurd (omega (arith, l))
   lowest_of P (x ∷ []) l a = a.0

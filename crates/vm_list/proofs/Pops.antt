@@ -60,7 +60,7 @@ module _ (cs : List (List Run)) (ok : AreLeaves last_of cs) where
           ∙ ap (λ l. items_of after ++ l) (append-nil rest ∙ t.4) ∙ sym (append_assoc (items_of after) t.0 (without_first t.1)),
     )
 
-  -- What is left of the leaf meets its neighbours.
+  -- The rest of the leaf meets its neighbours.
   pub meets_popped : (before : List (List Run)) (leaf : List Run) (after leaves : List (List Run)) (taken : Option ℕ) → IsHome (leaf_entry last_of) 0 cs before leaf after
       → IsPopped taken leaf leaves → Meet (Meets last_of) (before ++ (leaves ++ after))
   meets_popped before leaf after leaves taken h p =

@@ -15,7 +15,7 @@ lowest_key key [] = 0
 lowest_key key (x ∷ []) = key x
 lowest_key key (x ∷ y ∷ xs) = lowest_key key (y ∷ xs)
 
--- What is stored beside a leaf: its lowest key.
+-- The entry of a leaf: its lowest key.
 abbrev pub leaf_entry : {X : Type 0} → (X → ℕ) → List X → Entry
 leaf_entry key c = record { at = lowest_key key c; longest = 0; alignments = 0 }
 

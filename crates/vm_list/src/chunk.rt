@@ -45,8 +45,8 @@ pub(crate) const MIN_ENTRIES: usize = 16;
 /// The minimum number of entries of both parts of a leaf that is split.
 const FEW_ENTRIES: usize = 4;
 
-/// Returns true for a few numbers below `MIN_ENTRIES`, so that a leaf of which the lowest ids are taken one after the
-/// other is not tried to be joined each time.
+/// Returns true for a few numbers below `MIN_ENTRIES`. So a leaf whose lowest ids are taken one after the other seldom
+/// tries to be joined.
 pub(crate) fn may_join(len: usize) -> bool
     ensures { result ≡ false → 0 < len }
 {
@@ -258,7 +258,7 @@ impl<E: Keyed> Chunk<E> {
         find(self.entries.as_slice(), key)
     }
 
-    /// Puts an entry in the place of the one with its key, which is at this index and is returned.
+    /// Replaces the entry with the key of this one, which is at this index, and returns it.
     pub(crate) fn replace_at(&mut self, at: usize, entry: E) -> E
         requires { IsFoundAt E.key_of (E.key_of entry) at self.old }
         ensures old { entry_at E.key_of (E.key_of entry) self.old ≡ Some result }
@@ -268,8 +268,8 @@ impl<E: Keyed> Chunk<E> {
         mem::replace(&mut self.entries[at], entry)
     }
 
-    /// Puts an entry with a lower key in the place of the one with this key, which is returned. Returns the entry if
-    /// that would not be in order.
+    /// Replaces the entry with this key by one with a lower key, and returns it. Returns the new entry if that would
+    /// not be in order.
     pub(crate) fn lower(&mut self, key: u64, entry: E) -> Result<E, E>
         ensures lowered { IfOk result (λ old. (CanLower E.key_of key entry self.old) × (self.new ≡ with_entry E.key_of entry (without E.key_of key self.old))) }
         ensures refused { IfErr result (λ e. (e ≡ entry) × (self.new ≡ self.old) × (CanLower E.key_of key entry self.old → ⊥)) }

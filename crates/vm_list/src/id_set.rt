@@ -234,7 +234,7 @@ fn highest(runs: &KeyedList<Run>, id: u32) -> Option<Run>
     run_below(runs, id)
 }
 
-/// Puts a run, in the place of the one with the same last id. An error changes nothing.
+/// Puts a run, which replaces the one with the same last id. An error changes nothing.
 fn insert_run(runs: &mut KeyedList<Run>, alloc: Global, run: Run) -> Result<(), AllocError>
     ensures inserted { OnOk result (runs.new ≡ with_entry last_of run runs.old) }
     ensures unchanged { OnErr result (runs.new ≡ runs.old) }

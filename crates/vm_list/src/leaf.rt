@@ -132,7 +132,7 @@ impl<E: Keyed> Cut<Chunk<E>> for TakeOut<E> {
     }
 }
 
-/// Puts an entry with a lower key in the place of the one with a key.
+/// Replaces the entry with a key by one with a lower key.
 #[derive(Drop)]
 pub(crate) struct Lower<E: Keyed> {
     pub(crate) key: u64,

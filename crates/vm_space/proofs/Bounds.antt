@@ -222,7 +222,7 @@ module _ (s : Search) (bs : List Block) (run : IsRun bs) where
     fits First f = f.0
     fits Last f = f.0
 
-    -- What was passed over weighs at most one more than its gaps.
+    -- The blocks passed over weigh at most one more than their gaps.
     passed_over : (end : End) (k : Bool) → (f : IsClosestPlace end s bs place) → weight_in k s (beyond end place.lower place.upper) ≤ gaps k + 1
     unfolding weight
     passed_over First k f =

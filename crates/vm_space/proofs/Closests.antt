@@ -1,4 +1,4 @@
--- What a search of a tree found, in its space.
+-- The result of a search of a tree, in its space.
 use Rattle.std.specs.Prelude.{Some, None, Ok, Err}
 use Rattle.std.proofs.Common.{◌≡◌, ℕ, ◌+◌, ◌-◌, ◌*◌, ◌≤◌, ◌<◌, min, Bool, true, false, List, [], ◌∷◌, ◌++◌, ◌∙◌, sym, refl, ap, subst, arith, inl, inr}
 use Rattle.std.proofs.lemmas.List.{append-nil}
@@ -54,7 +54,7 @@ module _ (end : End) (s : Search) (v : IsSearch s) (order : s.low ≤ s.high) (o
         subst (λ z. IsClosestPlace end s z whole) (sym (ap blocks_of h.was ∙ blocks_cut before leaf after))
         (closest_middle end s (blocks_of before) leaf (blocks_of after) p none x)
 
-    -- What was passed over weighs at most what is beyond the place.
+    -- The leaves passed over weigh at most as much as the blocks beyond the place.
     heavier : (k : Bool) → total (weight_in k s) (beyond end before after) ≤ weight_in k s (beyond end whole.lower whole.upper)
     heavier k = by_end end
       where

@@ -53,7 +53,7 @@ ascend_lower (w ∷ b) x y z a s l h =
     from_pair v [] f = (f.0, (omega (arith, f.0, l), f.1.1))
     from_pair v (u ∷ b) f = (f.0, from_pair v b f.1)
 
--- What a change of a leaf at an end makes of a space `was` whose leaves are `now`.
+-- A space `was` that has the leaves `now` after a change of a leaf at an end.
 pub record IsChangeable (at : ℕ) (R : List Block → List Block → Type 0) (refuses : List Block → Type 0) (k : Range) (was now : List (List Block)) : Type 0 where
   pub before : List (List Block)
   pub leaf : List Block

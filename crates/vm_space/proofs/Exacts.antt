@@ -54,7 +54,7 @@ below_taken seek old new taken b h =
     (below_append (parts p.key (span p.start seek.size)) p.upper (below_parts p.key (span p.start seek.size) h.taken_at.below)
     (below_right p.lower (free_block p.key ∷ p.upper) e).1))
 
--- What became of a space: its leaves were ls, and are ms.
+-- A space after a change: its leaves were ls, and are ms.
 pub record IsAfter (seek : Search) (t : ℕ) (old new : Subtree (List Block)) (answer : Result Taken Refusal) : Type 0 where
   pub allocates : AllocatesExact seek t (blocks old) (blocks new) answer
   pub unchanged : OnErr answer (new ≡ old)
@@ -64,7 +64,7 @@ pub record IsAfter (seek : Search) (t : ℕ) (old new : Subtree (List Block)) (a
   pub high : new.height ≤ old.height + 1
 
 module _ (seek : Search) (t : ℕ) (z : 0 < seek.size) (old new : Subtree (List Block)) (space : AreSpace old.leaves) (s : IsStartIn seek t (blocks old)) where
-  -- What was done in a leaf was done in the space.
+  -- A change of a leaf is one of the space.
   spread : (before : List (List Block)) (leaf : List Block) (after leaves : List (List Block)) (answer : Result Taken Refusal)
       → AllocatesExact seek t leaf (blocks_of leaves) answer
       → AllocatesExact seek t (blocks_of (before ++ leaf ∷ after)) (blocks_of (before ++ (leaves ++ after))) answer

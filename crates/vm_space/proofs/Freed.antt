@@ -87,7 +87,7 @@ max_not_held k ls s e h =
     let z = ap (λ (y : Block). y.key.end) h.found in
     omega (arith, u, p.some, e)
 
--- What became of a space in which k is to be freed.
+-- A space after a call that frees k.
 pub record IsAfterFree (k : Range) (old new : Subtree (List Block)) (answer : Option ℕ) : Type 0 where
   pub space : AreSpace new.leaves
   pub freed : MatchOption answer ((new ≡ old) × ¬ Holds k (blocks_of old.leaves))

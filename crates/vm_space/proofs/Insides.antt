@@ -75,7 +75,7 @@ regrouped_blocks mid new r h =
           )
     ]
 
--- What is left of a space in which a range was freed, after two leaves shared their blocks in another way.
+-- A range was freed, and then two leaves shared their blocks in another way: the range is freed all the same.
 pub freed_regrouped : (k : Range) (joined : ℕ) (old mid new : List (List Block)) → IsFreed k joined old mid → IsRegrouped JoinsTo mid new
     → IsFreed k joined old new
 freed_regrouped k joined old mid new h r =
@@ -160,7 +160,7 @@ module _ (k : Range) (old : List (List Block)) (s : AreSpace old) (facts : 2 ≤
         some = one_have before leaf after n (subst HaveBlocks e s.some) f.some;
       }
 
-  -- What a change inside a leaf makes of it.
+  -- A leaf after a change inside it.
   inside_one : (answer : Freeing) (joined : ℕ) (before : List (List Block)) (leaf : List Block) (after leaves : List (List Block)) → answer ≡ Done joined
       → old ≡ before ++ leaf ∷ after → BecomesOne (DoneInside k answer) leaf leaves → IsFreed k joined old (before ++ (leaves ++ after))
   inside_one answer joined before leaf after leaves a e b =
@@ -177,7 +177,7 @@ module _ (k : Range) (old : List (List Block)) (s : AreSpace old) (facts : 2 ≤
       by_case (Done joined) b =
           freed_meets k joined old (before ++ (leaves ++ after)) s (inside_one (Done joined) joined before leaf after leaves refl home.was b)
 
-  -- What became of the tree.
+  -- The tree after the change.
   pub cut_after : (was now : Subtree (List Block)) (answer : Freeing) (done : Bool) → was.leaves ≡ old
       → IsTreeCut blocks_entry JoinsTo k.start (λ l. RefusesInside k l answer) (λ l ls. BecomesOne (DoneInside k answer) l ls) was now done
       → CutAfter k was now answer × (now.height ≤ was.height)

@@ -80,7 +80,7 @@ middle_upto l m (x ∷ r) t run some b high =
     let k = high (omega arith) in
     omega arith
 
--- Of three lists of blocks, the one in the middle has the address.
+-- The second of three lists of blocks has the address.
 in_middle : (l m r : List Block) (t : ℕ) → IsRun (l ++ (m ++ r)) → 0 < length m → start_of (l ++ (m ++ r)) ≤ t → t ≤ end_of (l ++ (m ++ r)) →
     (0 < length l → start_of m ≤ t) → (0 < length r → t < start_of r) → IsInLeaf t m
 in_middle l m r t run some a b low high = record { from = middle_from l m r t some a low; upto = middle_upto l m r t run some b high }

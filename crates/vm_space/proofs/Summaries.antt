@@ -89,7 +89,7 @@ raises_entry bs new i k was within inner e r told d w =
     d ∙ alike (raised_entry was k) (blocks_entry new) (ap (λ (x : Entry). x.at) w ∙ sym (ap start_of e ∙ s))
     (omega (arith, ap (λ (x : Entry). x.longest) w, r.longest)) (omega (arith, ap (λ (x : Entry). x.alignments) w, r.alignments))
 
--- The entry that a change tells.
+-- The entry that a change returns.
 pub told_changed : (d e : Entry) → cutting.Changed d ≡ cutting.Changed e → e ≡ d
 told_changed d e h = cc
 

@@ -67,7 +67,7 @@ abbrev pub Extends : End → ℕ → ℕ → List Block → List Block → Type 
 Extends First z t old new = ExtendsLast z t old new
 Extends Last z t old new = ExtendsFirst z t old new
 
--- The gap cannot be extended, as it is not there, or would have all addresses.
+-- The gap cannot be extended: there is none, or it would have all addresses.
 abbrev pub RefusesExtension : End → ℕ → ℕ → List Block → Type 0
 RefusesExtension First z t bs = ((new : List Block) → ExtendsLast z t bs new → ⊥) ⊎ ((start_of bs ≡ 0) × (t ≡ MAX))
 RefusesExtension Last z t bs = ((new : List Block) → ExtendsFirst z t bs new → ⊥) ⊎ ((t ≡ 0) × (end_of bs ≡ MAX))

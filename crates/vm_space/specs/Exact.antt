@@ -35,7 +35,7 @@ abbrev pub IsRefusal : Result Taken Refusal → Type 0
 IsRefusal (Ok taken) = ⊥
 IsRefusal (Err refusal) = ¬ IsOutOfMemory refusal
 
--- The range was not allocated in the leaf, and the answer says why.
+-- The range was not allocated in the leaf, and the answer is the reason.
 abbrev pub RefusesExact : Search → ℕ → List Block → Result Taken Refusal → Type 0
 RefusesExact search t bs answer = IsInLeaf t bs → AllocatesExact search t bs bs answer × IsRefusal answer
 

@@ -31,7 +31,7 @@ pub record CanSplit (end : End) (search : Search) (bs : List Block) (place : Pla
 abbrev pub SettlesFit : End → Search → List Block → List Block → Result taken.Taken Refusal → Type 0
 SettlesFit end search old new answer = (place : ListPlace) × IsClosestPlace end search old place × SettlesAt search place new answer
 
--- What became of a search in a leaf.
+-- The result of a search in a leaf.
 abbrev pub FitsLeaf : End → Search → List Block → List Block → Fitting → Type 0
 FitsLeaf end search old new Absent = (new ≡ old) × HasNoPlace search old
 FitsLeaf end search old new (Refused refusal) = (new ≡ old) × SettlesFit end search old old (Err refusal)
@@ -52,7 +52,7 @@ pub record FitsAt (end : End) (search : Search) (old new : List (List Block)) (a
   pub closest : IsClosestPlace end search leaf place
   pub settles : SettlesAt search place (blocks_of leaves) answer
 
--- What became of a search in a tree.
+-- The result of a search in a tree.
 abbrev pub FitsTree : End → Search → List (List Block) → List (List Block) → Result taken.Taken Refusal → Type 0
 FitsTree end search old new answer = ((new ≡ old) × HasNoPlace search (blocks_of old) × (answer ≡ Err NoPlace)) ⊎ FitsAt end search old new answer
 
@@ -89,7 +89,7 @@ answer_of (Refused refusal) = Err refusal
 answer_of (Full place) = Err NoPlace
 answer_of (Taken taken) = Ok taken
 
--- What became of a tree in which the place that is closest to the end is to be allocated, and of a counter.
+-- A tree after a call that allocates the place that is closest to the end, and a counter.
 pub record IsFitTree (end : End) (s : Search) (old new : Subtree (List Block)) (c d : ℕ) (answer : Result taken.Taken Refusal) : Type 0 where
   pub fits : FitsTree end s old.leaves new.leaves answer
   pub unchanged : OnErr answer (new ≡ old)

@@ -48,7 +48,7 @@ pub record IsFreed (k : Range) (joined : ℕ) (old new : List (List Block)) : Ty
 abbrev pub RefusesFree : Range → List Block → Type 0
 RefusesFree k bs = IsInLeaf k.start bs → ¬ Holds k bs
 
--- What became of leaves in which k is to be freed.
+-- Leaves after a call that frees k.
 abbrev pub FreesLeaves : Range → List (List Block) → List (List Block) → Option ℕ → Type 0
 FreesLeaves k old new None = (new ≡ old) × IsRefused blocks_entry k.start (RefusesFree k) old
 FreesLeaves k old new (Some joined) = IsFreed k joined old new
@@ -65,7 +65,7 @@ DoneInside k Absent bs new = ⊥
 DoneInside k (AtEdge edge) bs new = ⊥
 DoneInside k (Done n) bs new = FreesIn k n bs new
 
--- What became of a tree in which k is to be freed inside its leaf.
+-- A tree after a call that frees k inside its leaf.
 abbrev pub CutAfter : Range → Subtree (List Block) → Subtree (List Block) → Freeing → Type 0
 CutAfter k old new Absent = (new ≡ old) × IsRefused blocks_entry k.start (RefusesFree k) old.leaves
 CutAfter k old new (AtEdge edge) = (new ≡ old) × IsEdge k edge old.leaves

@@ -53,7 +53,7 @@ fn with_gap(was: &Entry, gap: &RangeInclusive) -> Entry
     }
 }
 
-/// What became of a range that is to be freed inside its leaf.
+/// The result of a call that frees a range inside its leaf.
 #[derive(Clone, Copy)]
 pub(crate) enum Freeing {
     /// The range is not held.

@@ -110,7 +110,7 @@ module _ {X : Type 0} (en : X → Entry) where
   pub crossed : (lo hi : ℕ) (xs : List X) → hi < lo → left_of en lo hi xs ≡ []
   crossed lo hi xs l = up_none hi (from_on en lo xs) (weaker (λ y. lo ≤ (en y).at) (λ y. hi < (en y).at) (λ y p. omega (arith, p, l)) (from_on en lo xs) (from_least lo xs))
 
-  -- What is true of all leaves is true of one with this address.
+  -- A fact of all leaves is one of the leaf with this address.
   has : (P : X → Type 0) (n : ℕ) (xs : List X) (h : Has en n xs) → AllOf P xs → P h.leaf
   has P n xs h a = (all_right P h.before (h.leaf ∷ h.after) (subst (AllOf P) h.is a)).0
 

@@ -65,7 +65,7 @@ module _ {X C : Type 0} (tree : Box C Global → Subtree X) (os : List (Option (
     shrank = subst (λ (s : Subtree X). Shrank entry enough joins key refuses edits s (tree n) r) (e ∙ sym (at tree os i o k n d l h)) g;
   }
 
--- What is left of leaves that meet.
+-- A part of leaves that meet.
 module _ {X : Type 0} (meets : X → X → Type 0) where
   pub meet_left : (xs ys : List X) → Meet meets (xs ++ ys) → Meet meets xs
   meet_left [] ys m = tt

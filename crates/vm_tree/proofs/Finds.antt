@@ -55,7 +55,7 @@ module _ {X C : Type 0} (en : X → Entry) (P : X → Type 0) (key least : ℕ) 
   pub kid_ascends : Ascend en (leaves_of (map tree (held os))) → Ascend en (tree k).leaves
   kid_ascends a = subst (λ (s : Subtree X). Ascend en s.leaves) here (child_ascends en i (map tree (held os)) a)
 
--- What is stored beside a child that is a leaf.
+-- The entry of a child that is a leaf.
 pub kid_entry : {X : Type 0} (en : X → Entry) (os : List (Option (Box X Global))) (es : List Entry) (i : ℕ) (x : X) → IsDense os → i < length (held os)
     → es ≡ map (entry_of en) (map leaf_tree (held os)) → HasKid os i x → nth es i ≡ en x
 kid_entry en os es i x d l e k =

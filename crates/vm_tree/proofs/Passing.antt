@@ -64,7 +64,7 @@ module _ {X : Type 0} where
     more_down : (i j : ℕ) → i ≤ j → j ≤ length ss → f (drop j ss) ≤ f (drop i ss)
     more_down i j p l = omega (arith, cut_whole i, cut_whole j, more_up i j p l)
 
-    -- What was passed over is not more than all.
+    -- The children passed over are not more than all.
     part_of : (end : End) (from to : ℕ) → f (passed end from to ss) ≤ f ss
     part_of First from to = omega (arith, cut_whole from)
     part_of Last from to = omega (arith, cut_whole to)
@@ -89,7 +89,7 @@ module _ {X : Type 0} where
         ap (λ n. m * n) (next_down i (omega arith)) ∙ distribute m (f (nth_tree ss i ∷ [])) (f (drop (suc i) ss)) in
         omega (arith, x, y, distribute m (f (drop to ss)) 0, distribute m (f (nth_tree ss i ∷ [])) o, distribute m (f (drop i ss)) o)
 
-    -- What was passed over before the child i, and the child.
+    -- The children passed over before the child i, and the child.
     room_up : (from i : ℕ) → from ≤ i → i < length ss → f (take from ss) + f (nth_tree ss i ∷ []) ≤ f ss
     room_up from i p l = omega (arith, more_up from i p (omega arith), cut_whole i, next_down i l)
 
@@ -219,7 +219,7 @@ module _ {X : Type 0} (en : X → Entry) (P : X → Type 0) (q : Seeking X) (law
           ]
         ]
 
-    -- What the child adds beside its weight.
+    -- The one more that the child adds to its weight.
     module _ (end : End) (p : IsPassing end q ss from to c d) (after : from ≤ i) (before : i < to) where
       own_extra : extra (q.reaches (nth_tree ss i).leaves) ≤ extra (q.reaches (leaves_of ss))
       own_extra = elim (cases (q.reaches (leaves_of ss))) [

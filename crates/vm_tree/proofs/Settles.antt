@@ -172,7 +172,7 @@ module _ {X C : Type 0} (en : X → Entry) (P : X → Type 0) (at more : List X 
     unchanged : (new : Subtree X) (ts : List (Subtree X)) → ts ≡ set ss i new → new ≡ nth_tree ss i → ts ≡ ss
     unchanged new ts e s = e ∙ set-same no_tree ss i new s l
 
-  -- What became of the children.
+  -- The halves of the children, if there are two.
   abbrev pub Halves-are : List Entry → Settled C → Type 0
   Halves-are es settled.Refused = Unit {0}
   Halves-are es settled.Same = Unit {0}
@@ -287,7 +287,7 @@ module _ {X C : Type 0} (en : X → Entry) (P : X → Type 0) (at more : List X 
         let q = halved bs g.new g.list h g.grew es n fs cs fits v s in
         record { kids = q.0; grew = q.1.1; halves = (q.1.0, (s.dense, omega (arith, s.full, length-set es i h.low))) }
 
-    -- What the functions after it ask, and what they make of it.
+    -- The preconditions of the functions after it, and their results.
     module _ (o : Outcome C) (r : Settled C) (fs : List Entry) (os : List (Option (Box C Global))) (g : GrewAt en P at refuses edits tree i ss (map tree bs) o)
         (s : IsSettled i es bs fs (held os) o r) (d : IsDense os) (least : ℕ) (deep : least ≤ front ss) where
       pub over_done : IsOver en P least tree fs os

@@ -334,7 +334,7 @@ module _ {X C : Type 0} (en : X → Entry) (P : X → Type 0) (key : ℕ) (refus
         }
         small (shrunk.Small a) q = record { one = small_cut; sum = q ∙ sum_is }
 
--- What a join asks of the pair.
+-- The preconditions of a join.
 module _ {A : Type 0} where
   at_both : (P Q : A → A → Type 0) (j : ℕ) (xs : List A) → AtPair P j xs → AtPair Q j xs → AtPair (λ a b. P a b × Q a b) j xs
   at_both P Q j [] p q = absurd p
@@ -365,7 +365,7 @@ module _ {X : Type 0} where
   meet_pair meets zero (b ∷ c ∷ bs) m l = m.0
   meet_pair meets (suc j) (b ∷ c ∷ bs) m l = meet_pair meets j (c ∷ bs) m.1 (omega arith)
 
-  -- Of two neighbours one is as it was.
+  -- One of two neighbours is as before.
   other_full : (P : X → Type 0) (h i j : ℕ) (ss : List (Subtree X)) (t : Subtree X) → AreFull P h ss → suc j < length ss → (j ≡ i) ⊎ (suc j ≡ i)
       → IsFull P h (nth_tree (set ss i t) j) ⊎ IsFull P h (nth_tree (set ss i t) (suc j))
   other_full P h i j ss t a l (inl e) =

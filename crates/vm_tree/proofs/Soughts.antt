@@ -1,4 +1,4 @@
--- What a search found in a child, as found in its node.
+-- The result of a search of a child is one of its node.
 use Rattle.std.proofs.Common.{◌≡◌, ℕ, ◌+◌, ◌<◌, min, false, List, [], ◌∷◌, ◌++◌, length, take, map, set, get_or, Option, Some, None, Box, ◌∙◌, sym, refl, ap, subst, arith}
 use Rattle.std.specs.declared.alloc.Global.{Global}
 use Rattle.vm_tree.specs.Entry.{Entry}

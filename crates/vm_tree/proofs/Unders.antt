@@ -1,4 +1,4 @@
--- What the invariant of a node says of its children.
+-- Facts of the children that follow from the invariant of a node.
 use Rattle.std.proofs.Common.{◌≡◌, ℕ, zero, suc, ◌+◌, ◌*◌, ◌^◌, ◌≤◌, ◌<◌, List, [], ◌∷◌, length, map, Box, refl, arith, ◌∙◌, ap, lit≤}
 use Rattle.std.proofs.Math.Nat.{mul-le-mul, pow-suc}
 use Rattle.std.proofs.lemmas.List.{length-map}

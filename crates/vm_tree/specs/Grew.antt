@@ -1,4 +1,4 @@
--- What a change did to a subtree.
+-- A subtree after a change.
 use Rattle.std.specs.Prelude.{◌≡◌, ℕ, ◌+◌, ◌≤◌, List, set, map, Box, Option}
 use Rattle.std.specs.declared.alloc.Global.{Global}
 use Rattle.vm_tree.specs.Entry.{Entry}
@@ -104,7 +104,7 @@ CanSettle {X} {C} entry enough least tree n i es bs o =
     (fs : List Entry) (os : List (Option (Box C Global))) (r : Settled C) → IsDense os → IsSettled i es bs fs (held os) o r
     → CanFinish entry enough least tree n r
 
--- What was done with the child i becomes this of the node, of which an upper half stands in a node.
+-- A change of the child i has this outcome for its node. An upper half stands in a node.
 pub record IsSettledIn {X C D : Type 0} (tree : Box C Global → Subtree X) (node : Box D Global → Subtree X) (n m i : ℕ) (es : List Entry)
     (bs : List (Box C Global)) (fs : List Entry) (cs : List (Box C Global)) (o : Outcome C) (r : Outcome D) : Type 0 where
   pub settled : Settled C

@@ -1,4 +1,4 @@
--- What the number of children says of a node.
+-- Facts of a node with this number of children.
 use Rattle.std.specs.Prelude.{◌≡◌, ℕ, ◌-◌, ◌*◌, ◌^◌, ◌≤◌, ◌<◌, length}
 use Rattle.vm_tree.specs.Subtree.{Subtree, kids, AllOf, IsFull}
 use Rattle.vm_tree.specs.Sized.{IsSizedTree}

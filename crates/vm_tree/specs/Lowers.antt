@@ -33,12 +33,12 @@ module _ {X : Type 0} (entry : X → Entry) (joins : X → X → List X → Type
     pub lower : s.height ≤ t.height + 1
     pub cut : IsShrunk entry joins key edits s.leaves t.leaves
 
-  -- What a call has done: nothing, or a change.
+  -- A tree after a call: nothing was done, or a change.
   abbrev pub IsTreeCut : Bool → Type 0
   IsTreeCut false = IsUncutTree
   IsTreeCut true = IsCutTree
 
--- What a change did to a root: the leaf refused, or it has changed.
+-- A root after a change: the leaf refused, or it has changed.
 abbrev pub IsRootCut : {X : Type 0} → (X → Entry) → (X → Type 0) → (X → X → List X → Type 0) → ℕ → (X → Type 0) → (X → List X → Type 0) → Subtree X → Subtree X → Bool → Type 0
 IsRootCut entry enough joins key refuses edits s t false = IsUncut entry enough joins key refuses edits s t
 IsRootCut entry enough joins key refuses edits s t true = IsCut entry joins key edits s t

@@ -11,7 +11,7 @@ AtPair P zero (x ∷ []) = ⊥
 AtPair P zero (x ∷ y ∷ xs) = P x y
 AtPair P (suc i) (x ∷ xs) = AtPair P i xs
 
--- The list with others in the place of the items at i and i + 1.
+-- The list in which others replace the items at i and i + 1.
 abbrev pub with_pair : {A : Type 0} → ℕ → List A → List A → List A
 with_pair i new [] = new
 with_pair zero new (x ∷ []) = new
@@ -37,7 +37,7 @@ pub record IsLeafJoin {X : Type 0} (joins : X → X → List X → Type 0) (old 
 abbrev pub IsRegrouped : {X : Type 0} → (X → X → List X → Type 0) → List X → List X → Type 0
 IsRegrouped joins old new = (new ≡ old) ⊎ IsLeafJoin joins old new
 
--- What became of the children i and i + 1. If one is true, all is in the first one.
+-- The children i and i + 1 after they shared their items. If one is true, all is in the first one.
 pub record ArePaired {X : Type 0} (entry : X → Entry) (enough : X → Type 0) (joins : X → X → List X → Type 0) (h i : ℕ) (ss ts : List (Subtree X)) (one : Bool) (e f : Entry) : Type 0 where
   pub low : Subtree X
   pub high : Subtree X

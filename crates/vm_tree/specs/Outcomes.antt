@@ -1,4 +1,4 @@
--- What became of the children of a node.
+-- The children of a node after a change.
 use Rattle.std.specs.Prelude.{◌≡◌, ℕ, ◌+◌, ◌≤◌, List, ◌++◌, length, set, Box, Option, Some, None}
 use Rattle.std.specs.declared.alloc.Global.{Global}
 use Rattle.std.specs.List.{insert}
@@ -60,7 +60,7 @@ module _ {C : Type 0} (i : ℕ) (es : List Entry) (bs : List (Box C Global)) (fs
     pub kids : cs ≡ bs
     pub entry : nth es i ≡ e
 
-  -- What was done with a child becomes this of the node.
+  -- A change of a child has this outcome for its node.
   abbrev pub IsSettled : Outcome C → Settled C → Type 0
   IsSettled outcome.Refused settled.Refused = AreSame
   IsSettled outcome.Same settled.Same = AreSame

@@ -49,11 +49,11 @@ module _ {X : Type 0} (enough : X → Type 0) (at : List X → X → List X → 
     pub higher : t.height ≤ s.height + 1
     pub edited : IsEditedAt enough at edits s.leaves t.leaves
 
-  -- What a call has done at a place: nothing, or a change.
+  -- A tree after a call at a place: nothing was done, or a change.
   abbrev pub IsTreeAfterAt : Bool → Type 0
   IsTreeAfterAt false = IsKeptTree
   IsTreeAfterAt true = IsEditedTree
 
--- What a call has done with the leaf of the key: nothing, or a change.
+-- A tree after a call with the leaf of the key: nothing was done, or a change.
 abbrev pub IsTreeAfter : {X : Type 0} → (X → Entry) → (X → Type 0) → ℕ → (X → Type 0) → (X → List X → Type 0) → Subtree X → Subtree X → Bool → Type 0
 IsTreeAfter entry enough key refuses edits s t done = IsTreeAfterAt enough (AtKey entry key) refuses edits s t done

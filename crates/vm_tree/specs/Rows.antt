@@ -49,7 +49,7 @@ abbrev pub alignments_of : List Entry → ℕ
 alignments_of [] = 0
 alignments_of (e ∷ es) = max e.alignments (alignments_of es)
 
--- Of two entries, the first address, and the greatest of the others.
+-- The entry of two parts: the first address, and the greater one of each other field.
 abbrev pub joined : Entry → Entry → Entry
 joined a b = record { at = a.at; longest = max a.longest b.longest; alignments = max a.alignments b.alignments }
 

@@ -20,9 +20,9 @@ abbrev pub extra : Bool → ℕ
 extra true = 0
 extra false = 1
 
--- A search for the place that is closest to an end, in a window of addresses: which leaves lack a place, which summaries do not
--- exclude one, a weight of a leaf that has no place by one of two tests, which leaves can be next to each other, and whether the
--- window reaches into them.
+-- A search for the place that is closest to an end, in a window of addresses. `lacks` is true of leaves without a place, and
+-- `fits` of summaries that do not exclude one. A leaf that has no place by one of two tests has a `weight`. Only leaves of
+-- which `runs` is true can be next to each other, and the window reaches into those of which `reaches` is true.
 pub record Seeking (X : Type 0) : Type 1 where
   pub end : End
   pub low : ℕ
@@ -33,7 +33,7 @@ pub record Seeking (X : Type 0) : Type 1 where
   pub runs : List X → Type 0
   pub reaches : List X → Bool
 
--- What a search asks of leaves next to each other:
+-- The conditions of a search on leaves next to each other:
 -- - Their addresses do not descend, and a part of them can be next to each other.
 -- - A window reaches into a part of leaves into which it reaches, if the part does not begin after it or end before it. It reaches
 --   into leaves if an address at which one of them begins is in the window, and is not its lowest one.

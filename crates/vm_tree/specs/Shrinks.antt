@@ -1,4 +1,4 @@
--- What a change that leaves fewer items did to a subtree.
+-- A subtree after a change that leaves fewer items.
 use Rattle.std.specs.Prelude.{◌≡◌, ℕ, ◌+◌, ◌≤◌, ◌<◌, List, [], ◌∷◌, ◌++◌, length, set}
 use Rattle.vm_tree.specs.Entry.{Entry}
 use Rattle.vm_tree.specs.Rows.{sum_of, beginning_at}
@@ -18,7 +18,7 @@ Meet meets [] = Unit {0}
 Meet meets (x ∷ []) = Unit {0}
 Meet meets (x ∷ y ∷ xs) = meets x y × Meet meets (y ∷ xs)
 
--- What these changes make of the leaf of the key meets its neighbours.
+-- After such a change the leaf of the key meets its neighbours.
 abbrev pub MeetsAfter : {X : Type 0} → (X → Entry) → (X → X → Type 0) → ℕ → (X → List X → Type 0) → List X → Type 0
 MeetsAfter {X} entry meets key edits old =
     (before : List X) (leaf : X) (after leaves : List X) → IsHome entry key old before leaf after → edits leaf leaves
@@ -92,7 +92,7 @@ HasBegun i a (shrunk.Begins b) = (i ≡ 0) × (b ≡ a)
 HasBegun i a (shrunk.Changed e) = ⊥
 HasBegun i a (shrunk.Small e) = ⊥
 
--- What a change of a child is as seen from above: the entry can be as before, or begin at another address.
+-- A change of a child as its parent knows it. The entry can be as before, or begin at another address.
 abbrev pub IsQuiet : Entry → Shrunk → Shrunk → Type 0
 IsQuiet was shrunk.Refused shrunk.Refused = Unit {0}
 IsQuiet was shrunk.Same shrunk.Same = Unit {0}

@@ -1,4 +1,4 @@
--- What a search in a subtree finds.
+-- The result of a search in a subtree.
 use Rattle.std.specs.Prelude.{◌≡◌, ℕ, suc, ◌+◌, ◌*◌, ◌<◌, ◌≤◌, min, Bool, true, false, List, ◌++◌, length, take, drop, Option, Some, None, Box}
 use Rattle.std.specs.declared.alloc.Global.{Global}
 use Rattle.vm_tree.specs.Entry.{Entry}
@@ -87,22 +87,22 @@ module _ {X : Type 0} (q : Seeking X) (c d : ℕ) where
     pub vain : IsVain q (nth_tree ss i).height (nodes (nth_tree ss i)) c d (nth_tree ss i).leaves
 
 module _ {X : Type 0} (entry : X → Entry) (enough : X → Type 0) (q : Seeking X) (c d : ℕ) (refuses : X → Type 0) (edits : X → List X → Type 0) where
-  -- What a search did with a subtree.
+  -- A subtree after a search.
   abbrev pub Sought : {C : Type 0} → (Box C Global → Subtree X) → Subtree X → Subtree X → Option (Outcome C) → Type 0
   Sought tree s t None = IsUnsought q c d s t
   Sought tree s t (Some o) = Grew entry enough (AtNearest q c d s) refuses edits tree s t o
 
-  -- What a search did with a root.
+  -- A root after a search.
   abbrev pub SoughtRoot : {C : Type 0} → (Box C Global → Subtree X) → Subtree X → Subtree X → Option (Outcome C) → Type 0
   SoughtRoot tree s t None = IsUnsought q c d s t
   SoughtRoot tree s t (Some o) = Went entry enough (AtNearest q c d s) refuses edits tree s t o
 
-  -- What a search did with the child i.
+  -- The child i after a search.
   abbrev pub SoughtAt : {C : Type 0} → (Box C Global → Subtree X) → ℕ → List (Subtree X) → List (Subtree X) → Option (Outcome C) → Type 0
   SoughtAt tree i ss ts None = IsUnsoughtAt q c d i ss ts
   SoughtAt tree i ss ts (Some o) = GrewAt entry enough (AtNearest q c d (nth_tree ss i)) refuses edits tree i ss ts o
 
-  -- What a search of the child i did with the node.
+  -- The node after a search of its child i.
   abbrev pub SoughtIn : {C : Type 0} → (Box C Global → Subtree X) → ℕ → List (Subtree X) → List (Subtree X) → Option (Outcome C) → Type 0
   SoughtIn tree i ss ts None = IsUnsoughtAt q c d i ss ts
   SoughtIn tree i ss ts (Some o) = Grew entry enough (IsInChild (AtNearest q c d (nth_tree ss i)) i ss) refuses edits tree (over ss) (over ts) o
@@ -119,7 +119,7 @@ module _ {X : Type 0} (entry : X → Entry) (enough : X → Type 0) (q : Seeking
   abbrev pub FailedSoughtIn : ℕ → List (Subtree X) → List (Subtree X) → Type 0
   FailedSoughtIn i ss ts = IsKept entry enough (IsInChild (AtNearest q c d (nth_tree ss i)) i ss) needs (λ l ls. ⊥) (over ss) (over ts)
 
--- What a search did with a tree: it found no place, or it found one, and true says that the leaf was changed.
+-- A tree after a search: it found no place, or it found one, and with true the leaf was changed.
 abbrev pub IsTreeSought : {X : Type 0} → (X → Type 0) → Seeking X → ℕ → ℕ → (X → Type 0) → (X → List X → Type 0) → Subtree X → Subtree X → Option Bool → Type 0
 IsTreeSought enough q c d refuses edits s t None = IsUnsought q c d s t
 IsTreeSought enough q c d refuses edits s t (Some done) = IsTreeAfterAt enough (AtNearest q c d s) refuses edits s t done

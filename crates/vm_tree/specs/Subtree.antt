@@ -1,4 +1,4 @@
--- What is known of a subtree.
+-- Subtrees.
 use Rattle.std.specs.Prelude.{◌≡◌, ℕ, ◌+◌, ◌*◌, ◌^◌, ◌≤◌, ◌<◌, List, [], ◌∷◌, ◌++◌, length, slice_index_or}
 use Rattle.vm_tree.specs.Entry.{Entry}
 use Rattle.vm_tree.specs.Rows.{joined, blank}
@@ -60,12 +60,12 @@ module _ {X : Type 0} where
   AllOf P (x ∷ xs) = P x × AllOf P xs
 
 module _ {X : Type 0} (entry : X → Entry) where
-  -- What is stored beside leaves.
+  -- The entry of leaves together.
   abbrev pub leaves_entry : List X → Entry
   leaves_entry [] = blank
   leaves_entry (x ∷ xs) = joined (entry x) (leaves_entry xs)
 
-  -- What is stored beside a child.
+  -- The entry of a child, which is stored beside it.
   abbrev pub entry_of : Subtree X → Entry
   entry_of s = leaves_entry s.leaves
 

@@ -17,7 +17,7 @@ use crate::leaf::Leaf;
 use crate::mend::{mend_leaves, mend_nodes};
 use crate::node::{Kids, Node};
 
-/// What a change did to a leaf.
+/// The result of a change of a leaf.
 pub enum Cutting {
     /// It refused, and the leaf is as before.
     Refused,
@@ -46,12 +46,12 @@ pub trait Cut<L: Leaf> {
         ensures small { (e : Entry) → result ≡ Cutting.Small e → (was ≡ L.entry leaf.old → e ≡ L.entry leaf.new) × edits self.old leaf.old self.new (leaf.new ∷ []) × shrinks self.old };
 }
 
-/// What a change did to a child.
+/// The result of a change of a child.
 #[derive(Clone, Copy, Drop)]
 pub(crate) enum Shrunk {
     /// The leaf refused. Nothing was changed.
     Refused,
-    /// What is stored beside the child is as before.
+    /// The entry of the child is as before.
     Same,
     /// The child begins at this address now. The rest of its entry is as before.
     Begins(u64),

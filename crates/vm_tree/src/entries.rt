@@ -1,4 +1,4 @@
-//! What is stored beside the children of a node.
+//! The entries of the children of a node.
 ghost use Rattle.std.specs.Prelude.{◌≡◌, ◌+◌, ◌<◌, ◌≤◌, ◌∷◌, [], ◌++◌, take, drop, length, set};
 ghost use Rattle.std.specs.List.{insert, remove};
 ghost use Rattle.vm_tree.specs.Rows.{nth, Ascends, longest_of, alignments_of, sum_of, beginning_at};
@@ -12,7 +12,7 @@ pub const FANOUT: usize = 16;
 /// The minimum number of children of a node that is no root.
 pub(crate) const MIN_CHILDREN: usize = 5;
 
-/// What is stored beside a child: its first address, and the summary of its gaps.
+/// The entry of a child, which is stored beside it: its first address, and the summary of its gaps.
 #[derive(Clone, Copy, Debug)]
 pub struct Entry {
     pub at: u64,

@@ -1,4 +1,4 @@
-//! What a tree asks of its leaves, and of a change of a leaf.
+//! The leaves of a tree, and the change of a leaf.
 ghost use Rattle.std.specs.Prelude.{◌≡◌, [], ◌∷◌, List, true, false, ◌⊎◌, IfOk, OnErr};
 ghost use Rattle.vm_tree.specs.Entry.{Entry};
 
@@ -28,7 +28,7 @@ pub trait Leaf: Drop {
         ensures two { result ≡ false → joins self.old next.old (self.new ∷ next.new ∷ []) × enough self.new × enough next.new };
 }
 
-/// What a change did to a leaf.
+/// The result of a change of a leaf.
 pub enum Change {
     /// It refused, and the leaf is as before.
     Refused,

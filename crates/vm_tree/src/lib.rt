@@ -4,8 +4,8 @@
 //!
 //! - The value of a [`Tree`] is a `Subtree`: its height, the number of children of each inner node in preorder, and its
 //!   leaves. All leaves are at the same depth, so these determine each node.
-//! - A type is a leaf by [`Leaf`]. An [`Edit`] changes the leaf of a key and can split it, a [`Cut`] leaves it fewer
-//!   items, and a [`Seek`] changes the leaf with the place that is closest to an end.
+//! - A type is a leaf by [`Leaf`]. An [`Edit`] changes the leaf of a key and can split it. A [`Cut`] leaves it fewer
+//!   items. A [`Seek`] changes the leaf with the place that is closest to an end.
 //! - `IsNode` is the invariant of a node: its children have the same height, and each entry is that of its child.
 //!
 //! # What is proved

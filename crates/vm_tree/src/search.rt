@@ -1,4 +1,4 @@
-//! What a tree asks of a search for a leaf.
+//! The search for a leaf.
 ghost use Rattle.std.specs.Prelude.{◌≡◌, ◌∷◌, [], List, IfOk, OnErr, IfSome, IfNone, None, Some};
 ghost use Rattle.vm_tree.specs.Seeking.{Seeking, IsSeeking};
 

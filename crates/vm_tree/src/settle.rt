@@ -1,4 +1,4 @@
-//! What was done with a child is written into the node above it, which is split if it is full.
+//! The result of a change of a child is written into its node, which is split if it is full.
 ghost use Rattle.std.specs.Prelude.{◌≡◌, ◌<◌, length};
 ghost use Rattle.vm_tree.specs.Grew.{CanFinish, CanSettle, IsFinished, IsSettledIn};
 ghost use Rattle.vm_tree.specs.Nodes.{leaf_tree, node_tree};

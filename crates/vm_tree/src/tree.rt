@@ -226,7 +226,7 @@ impl<L: Leaf> Tree<L> {
     }
 
     /// Changes the leaf to which a key belongs. Returns false if it refused. An error changes nothing. Nodes are
-    /// taken from `spares`: if there are as many as the height, then an error says that the leaf lacks memory.
+    /// taken from `spares`. If there are as many as the height, an error means that the leaf lacks memory.
     pub fn edit_with<E: Edit<L>>(
         &mut self,
         key: u64,

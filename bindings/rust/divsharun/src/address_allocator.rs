@@ -938,12 +938,12 @@ impl AddressAllocator {
         self.0.longest_gap()
     }
 
-    /// Returns the longest part of a gap that lies in a window, the lowest of them if several are as long, or
-    /// `None` if no address of the window is free.
+    /// Returns the longest part of a gap that lies in a window, or `None` if no address of the window is free.
+    /// If several are as long, it returns the lowest of them.
     ///
-    /// The window is a range of `u64` or a [`RangeInclusive`]. So it says why a request does not fit: at
-    /// alignment 1, it fits in the window if and only if its size is at most the length of this part. It goes
-    /// through the ranges and gaps of the window and does not allocate.
+    /// The window is a range of `u64` or a [`RangeInclusive`]. A request at alignment 1 fits in the window if
+    /// and only if its size is at most the length of this part. The call goes through the ranges and gaps of
+    /// the window and does not allocate.
     ///
     /// # Example
     ///

@@ -1,5 +1,5 @@
 // SPDX-License-Identifier: Apache-2.0 OR BSD-3-Clause
-//! Guards against a benchmark that measures another call, another round or another cache than it says. A library
+//! Guards against a benchmark that measures another call, another round or another cache than it names. A library
 //! that does nothing counts the calls, and one call takes a known time.
 
 #[allow(dead_code, unused_imports, unused_macros)]

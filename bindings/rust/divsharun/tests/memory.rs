@@ -676,9 +676,9 @@ fn short_lists_take_few_bytes() {
     assert_eq!(bytes, LEAF + 3 * 24 + 4 * (24 + 16 + 8));
 }
 
-/// Checks that a leaf with fewer than 16 runs of freed ids is joined with one next to it if both have at most 48, when
-/// most of a thousand ids are allocated again. So the 63 others are in two leaves or three, and a copy allocates each
-/// as for a first entry, and one node.
+/// Checks that a leaf with fewer than 16 runs of freed ids is joined with one next to it if both have at most 48. Most
+/// of a thousand ids are allocated again. So the 63 others are in two leaves or three, and a copy allocates each as for
+/// a first entry, and one node.
 fn leaves_are_joined() {
     let mut ids = IdAllocator::new(0, 2000).expect("ids");
     assert!(ids.allocate_ids(2000).is_ok());

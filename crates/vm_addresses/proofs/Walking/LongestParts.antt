@@ -61,7 +61,7 @@ parts_of_meeting w (g ∷ gs) =
 pub longest_length : (w : Range) (gs : List Range) → count_if (longest_of_parts w None (meeting w gs)) ≡ longest_part w gs
 longest_length w gs = omega (arith, part_is_longest w None (meeting w gs), parts_of_meeting w gs)
 
--- What holds of each element implies another fact.
+-- A fact of each element implies another one.
 weaken : (P Q : Range → Type 0) → ((r : Range) → P r → Q r) → (xs : List Range) → All P xs → All Q xs
 weaken P Q f [] a = All-nil Q
 weaken P Q f (x ∷ xs) a = All-cons Q x xs (f x (All-head P x xs a)) (weaken P Q f xs (All-tail P x xs a))

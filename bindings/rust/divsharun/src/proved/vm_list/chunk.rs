@@ -21,8 +21,8 @@ pub(in crate::proved::vm_list) const MIN_ENTRIES: usize = 16;
 /// The minimum number of entries of both parts of a leaf that is split.
 const FEW_ENTRIES: usize = 4;
 
-/// Returns true for a few numbers below `MIN_ENTRIES`, so that a leaf of which the lowest ids are taken one after the
-/// other is not tried to be joined each time.
+/// Returns true for a few numbers below `MIN_ENTRIES`. So a leaf whose lowest ids are taken one after the other seldom
+/// tries to be joined.
 pub(in crate::proved::vm_list) fn may_join(len: usize) -> bool {
     matches!(len, 0 | 1 | 3 | 7 | 15)
 }
@@ -162,13 +162,13 @@ impl<E: Keyed> Chunk<E> {
         find(self.entries.as_slice(), key)
     }
 
-    /// Puts an entry in the place of the one with its key, which is at this index and is returned.
+    /// Replaces the entry with the key of this one, which is at this index, and returns it.
     pub(in crate::proved::vm_list) fn replace_at(&mut self, at: usize, entry: E) -> E {
         mem::replace(&mut self.entries[at], entry)
     }
 
-    /// Puts an entry with a lower key in the place of the one with this key, which is returned. Returns the entry if
-    /// that would not be in order.
+    /// Replaces the entry with this key by one with a lower key, and returns it. Returns the new entry if that would
+    /// not be in order.
     pub(in crate::proved::vm_list) fn lower(&mut self, key: u64, entry: E) -> Result<E, E> {
         match lower_place(self.entries.as_slice(), key, &entry) {
             Some(at) => Ok(mem::replace(&mut self.entries[at], entry)),

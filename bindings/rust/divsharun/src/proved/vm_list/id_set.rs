@@ -130,7 +130,7 @@ fn highest(runs: &KeyedList<Run>, id: u32) -> Option<Run> {
     run_below(runs, id)
 }
 
-/// Puts a run, in the place of the one with the same last id. An error changes nothing.
+/// Puts a run, which replaces the one with the same last id. An error changes nothing.
 fn insert_run(runs: &mut KeyedList<Run>, alloc: Global, run: Run) -> Result<(), AllocError> {
     runs.insert(alloc, run)?;
     Ok(())

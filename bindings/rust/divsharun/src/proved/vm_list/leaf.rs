@@ -103,7 +103,7 @@ impl<E: Keyed> Cut<Chunk<E>> for TakeOut<E> {
     }
 }
 
-/// Puts an entry with a lower key in the place of the one with a key.
+/// Replaces the entry with a key by one with a lower key.
 pub(in crate::proved::vm_list) struct Lower<E: Keyed> {
     pub(in crate::proved::vm_list) key: u64,
     pub(in crate::proved::vm_list) entry: Option<E>,

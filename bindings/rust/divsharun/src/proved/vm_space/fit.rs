@@ -28,7 +28,7 @@ fn place_in(leaf: &Leaf, end: End, search: &Search) -> Option<Place> {
     Some(Place::new(fit.index, gap, range))
 }
 
-/// What became of a search in a leaf.
+/// The result of a search in a leaf.
 #[derive(Clone, Copy)]
 pub(in crate::proved::vm_space) enum Fitting {
     /// The leaf has no place.

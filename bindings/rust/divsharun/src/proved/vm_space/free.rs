@@ -37,7 +37,7 @@ fn with_gap(was: &Entry, gap: &RangeInclusive) -> Entry {
     }
 }
 
-/// What became of a range that is to be freed inside its leaf.
+/// The result of a call that frees a range inside its leaf.
 #[derive(Clone, Copy)]
 pub(in crate::proved::vm_space) enum Freeing {
     /// The range is not held.

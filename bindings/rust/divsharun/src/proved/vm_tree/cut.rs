@@ -8,7 +8,7 @@ use crate::proved::vm_tree::mend::{mend_leaves, mend_nodes};
 use crate::proved::vm_tree::node::{Kids, Node};
 use crate::rattle::Box;
 
-/// What a change did to a leaf.
+/// The result of a change of a leaf.
 pub(in crate::proved) enum Cutting {
     /// It refused, and the leaf is as before.
     Refused,
@@ -27,12 +27,12 @@ pub(in crate::proved) trait Cut<L: Leaf> {
     fn cut(&mut self, leaf: &mut L, was: Entry) -> Cutting;
 }
 
-/// What a change did to a child.
+/// The result of a change of a child.
 #[derive(Clone, Copy)]
 pub(in crate::proved::vm_tree) enum Shrunk {
     /// The leaf refused. Nothing was changed.
     Refused,
-    /// What is stored beside the child is as before.
+    /// The entry of the child is as before.
     Same,
     /// The child begins at this address now. The rest of its entry is as before.
     Begins(u64),

@@ -1,6 +1,6 @@
 // Written by bindings/erase from crates/vm_tree/src/entries.rt: do not edit.
 
-//! What is stored beside the children of a node.
+//! The entries of the children of a node.
 
 use crate::proved::vm_tree::columns::{
     append_in, greatest_in, insert_in, last_up_to, most_in, remove_in, split_in,
@@ -12,7 +12,7 @@ pub(in crate::proved) const FANOUT: usize = 16;
 /// The minimum number of children of a node that is no root.
 pub(in crate::proved::vm_tree) const MIN_CHILDREN: usize = 5;
 
-/// What is stored beside a child: its first address, and the summary of its gaps.
+/// The entry of a child, which is stored beside it: its first address, and the summary of its gaps.
 #[derive(Clone, Copy, Debug)]
 pub(in crate::proved) struct Entry {
     pub(in crate::proved) at: u64,

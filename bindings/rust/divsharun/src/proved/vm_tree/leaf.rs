@@ -1,6 +1,6 @@
 // Written by bindings/erase from crates/vm_tree/src/leaf.rt: do not edit.
 
-//! What a tree asks of its leaves, and of a change of a leaf.
+//! The leaves of a tree, and the change of a leaf.
 
 use crate::proved::vm_tree::entries::Entry;
 use crate::rattle::Box;
@@ -16,7 +16,7 @@ pub(in crate::proved) trait Leaf: Sized {
     fn join(&mut self, next: &mut Self) -> bool;
 }
 
-/// What a change did to a leaf.
+/// The result of a change of a leaf.
 pub(in crate::proved) enum Change {
     /// It refused, and the leaf is as before.
     Refused,

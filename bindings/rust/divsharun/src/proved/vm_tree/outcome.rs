@@ -1,14 +1,14 @@
 // Written by bindings/erase from crates/vm_tree/src/outcome.rt: do not edit.
 
-//! What a change did to a child, and to the node above it.
+//! The result of a change of a child, and of its node.
 use crate::proved::vm_tree::entries::{Entries, Entry, FANOUT};
 use crate::rattle::Box;
 
-/// What a change did to a child.
+/// The result of a change of a child.
 pub(in crate::proved::vm_tree) enum Outcome<C> {
     /// The leaf refused. Nothing was changed.
     Refused,
-    /// What is stored beside the child is as before.
+    /// The entry of the child is as before.
     Same,
     /// The child has this entry now.
     Changed(Entry),
@@ -23,7 +23,7 @@ pub(in crate::proved::vm_tree) struct Halves<C> {
     pub(in crate::proved::vm_tree) upper: Box<C>,
 }
 
-/// What a change did to the children of a node.
+/// The result of a change of the children of a node.
 pub(in crate::proved::vm_tree) enum Settled<C> {
     Refused,
     Same,

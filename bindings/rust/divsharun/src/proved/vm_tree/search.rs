@@ -1,6 +1,6 @@
 // Written by bindings/erase from crates/vm_tree/src/search.rt: do not edit.
 
-//! What a tree asks of a search for a leaf.
+//! The search for a leaf.
 
 use crate::proved::vm_tree::end::End;
 use crate::proved::vm_tree::entries::Entry;

@@ -1,6 +1,6 @@
 // Written by bindings/erase from crates/vm_tree/src/settle.rt: do not edit.
 
-//! What was done with a child is written into the node above it, which is split if it is full.
+//! The result of a change of a child is written into its node, which is split if it is full.
 
 use crate::proved::vm_tree::entries::{Entries, FANOUT};
 use crate::proved::vm_tree::grow::{note, settle};

@@ -17,9 +17,8 @@ pub enum ListConflict {
 }
 
 impl AddressAllocator {
-    /// Returns the reason why [`with_held`](Self::with_held) fails for the range with this index of a list, in
-    /// this space, or `None` if the range can be allocated after the range before it or the list has no such
-    /// range.
+    /// Returns the reason why [`with_held`](Self::with_held) of this space fails for the range with this index of a
+    /// list. Returns `None` if the range can be allocated after the one before it, or if the list has no such range.
     ///
     /// It returns the first of these reasons:
     /// - `NotAfter` if the range does not start after the end of the range before it.

@@ -16,15 +16,14 @@ returns c =
     let first : c.from.result ≡ (get_or xs (p - 1) blank).first = rw (c.as_slice-runs.ensures.value, c.self.view_is) at c.from.ensures in
     let above = c.if-from.false in
     let n = c.from-else-at-eq0.ensures in
-    let q = m.place.bound in
-    (
+    let q = m.place.bound in (
       alone_at c.args.id p xs m (rw c.self.view_is at c.self.invariant) some (get_or xs (p - 1) blank)
-      (λ d. get_or_default xs (p - 1) blank d (omega (arith, some, q))) (omega (arith, above, first, n))
-      (λ d l. elim c.else-at-runs.branch [
-        | else-at-runs-via-then-at-runs+else-from-2 w ↦
-          (let last : w.from-then-at-runs.result ≡ (get_or xs p blank).last = rw (c.as_slice-runs.ensures.value, c.self.view_is) at w.from-then-at-runs.ensures in
-          omega (arith, w.if-from-2.false, last, w.from-then-at-runs-2.ensures, ap last_of (get_or_default xs p blank d l)))
-        | else-at-runs-via-else-at-runs w ↦ absurd (omega (arith, l, rw (c.as_slice-runs.ensures.value, c.self.view_is) at w.if-at-runs.false))
-      ]),
+          (λ d. get_or_default xs (p - 1) blank d (omega (arith, some, q))) (omega (arith, above, first, n))
+          (λ d l. elim c.else-at-runs.branch [
+            | else-at-runs-via-then-at-runs+else-from-2 w ↦
+                (let last : w.from-then-at-runs.result ≡ (get_or xs p blank).last = rw (c.as_slice-runs.ensures.value, c.self.view_is) at w.from-then-at-runs.ensures in
+                omega (arith, w.if-from-2.false, last, w.from-then-at-runs-2.ensures, ap last_of (get_or_default xs p blank d l)))
+            | else-at-runs-via-else-at-runs w ↦ absurd (omega (arith, l, rw (c.as_slice-runs.ensures.value, c.self.view_is) at w.if-at-runs.false))
+          ]),
       m,
     )
