@@ -1,5 +1,5 @@
 use Rattle.std.proofs.Common.{refl, sym, ◌∙◌, subst}
-use Rattle.vm_list.specs.Entries.{IsDescendingBy, IsMissingAt}
+use Rattle.vm_list.specs.Entries.{IsDescendingBy}
 use Rattle.vm_list.proofs.Found.{missing_inserts}
 use Rattle.vm_list.proofs.EntryLaws.{put_descends}
 use Rattle.vm_list.proofs.chunk.Chunk.insert_at.Goals as goal

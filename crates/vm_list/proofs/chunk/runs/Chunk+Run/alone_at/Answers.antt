@@ -1,4 +1,4 @@
-use Rattle.std.proofs.Common.{◌≡◌, ◌+◌, ◌-◌, ◌<◌, length, arith, ap, get_or}
+use Rattle.std.proofs.Common.{◌≡◌, ◌-◌, ◌<◌, arith, ap, get_or}
 use Rattle.std.proofs.lemmas.List.{get_or_default}
 use Rattle.vm_list.specs.declared.id_set.Run.{Run}
 use Rattle.vm_list.specs.Runs.{last_of}
