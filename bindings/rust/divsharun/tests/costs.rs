@@ -16,14 +16,13 @@ use divsharun::{
 use processor::processor_time;
 use std::cmp::Ordering;
 
-/// The limit of the growth of a quick call. The second object has a hundred times as many items, and a
-/// linear call takes a hundred times as long in it.
-const LIMIT: u64 = 20;
-const COUNTS: [u64; 2] = [300, 30_000];
-/// The same for a call that goes through all items. A quadratic one takes 900 times as long.
-const LINEAR_LIMIT: u64 = 200;
-const LINEAR_COUNTS: [u64; 2] = [300, 9_000];
-const ROUNDS: usize = 5;
+/// The numbers of items. A call that moves a word of each item takes a hundred times as long in the second object, also
+/// if the call is quick in the first one.
+const COUNTS: [u64; 2] = [300, 1_000_000];
+/// The limit of the growth of a quick call.
+const LIMIT: u64 = 10;
+/// The same for a call that goes through all items. A quadratic one grows by more than a million.
+const LINEAR_LIMIT: u64 = 20_000;
 
 /// Calls of an object at an address or id of one of its items. They change nothing in the end, and
 /// return whether the results were right.
@@ -391,31 +390,33 @@ fn is_counted<I: ExactSizeIterator + Clone>(items: &I) -> bool {
 
 /// Compares the shortest times of each row in two objects, at many items.
 fn expect_quick<O>(make: impl Fn(u64) -> O, rows: &[Calls<O>], distance: u64) {
-    expect_growth((COUNTS, LIMIT), 50, make, rows, distance);
+    expect_growth(LIMIT, ([5; 2], 50), make, rows, distance);
 }
 
-/// Does the same for calls that go through all items.
+/// Does the same for calls that go through all items, once in the second object.
 fn expect_linear<O>(make: impl Fn(u64) -> O, rows: &[Calls<O>]) {
-    expect_growth((LINEAR_COUNTS, LINEAR_LIMIT), 1, make, rows, 2);
+    expect_growth(LINEAR_LIMIT, ([5, 1], 1), make, rows, 2);
 }
 
 fn expect_growth<O>(
-    (counts, limit): ([u64; 2], u64),
-    calls_of_row: u64,
+    limit: u64,
+    (rounds, calls_of_row): ([usize; 2], u64),
     make: impl Fn(u64) -> O,
     rows: &[Calls<O>],
     distance: u64,
 ) {
-    let mut objects = counts.map(make);
+    let mut objects = COUNTS.map(make);
     for (number, calls) in rows.iter().enumerate() {
-        let mut times = [u64::MAX; 2];
-        for place in [0, 1].repeat(ROUNDS) {
-            let begun = processor_time();
-            for at in (0..calls_of_row).map(|at| distance * (at * 7919 % (counts[place] - 4))) {
-                assert!(calls(&mut objects[place], at), "row {number}");
-            }
-            times[place] = times[place].min(processor_time() - begun);
-        }
+        let times = [0, 1].map(|place| {
+            let round = |_| {
+                let begun = processor_time();
+                for at in (0..calls_of_row).map(|at| distance * (at * 7919 % (COUNTS[place] - 4))) {
+                    assert!(calls(&mut objects[place], at), "row {number}");
+                }
+                processor_time() - begun
+            };
+            (0..rounds[place]).map(round).min().unwrap()
+        });
         assert!(times[1] < limit * times[0], "row {number}: {times:?}");
     }
 }
