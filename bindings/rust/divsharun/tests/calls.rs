@@ -935,7 +935,7 @@ const ROWS: [Row; 4] = [
         [
             "d0000000",
             "4 KiB",
-            "a&lt;b&gt; &amp;amp; \u{fffd}\u{fffd}ü\"",
+            "a&lt;b&gt; &amp;amp; \u{fffd}\u{fffd}\u{fffd}\u{fffd}\u{10000}ü\"",
         ],
     ),
     ("gap", 14 + 7, ["d0001000", "1020 KiB", "gap"]),
@@ -983,7 +983,9 @@ fn a_picture_has_a_row_for_each_block() {
     let exact = AllocPolicy::ExactMatch;
     let named = space.allocate(0x1000, 1, exact(0xd000_0000)).unwrap();
     space.allocate(0x18_0000, 1, exact(0xd010_0000)).unwrap();
-    let layout = space.layout().named([(named, "a<b> &amp; \n\u{ffff}ü\"")]);
+    let layout = space
+        .layout()
+        .named([(named, "a<b> &amp; \n\u{1f}\u{fffe}\u{ffff}\u{10000}ü\"")]);
     expect_picture(&layout.svg(), &ROWS);
     let mut space = AddressAllocator::new(0, u64::MAX).unwrap();
     let named = space.allocate(1, 1, exact(0)).unwrap();
