@@ -760,6 +760,8 @@ fn devices_are_listed_by_their_ids() {
                 let count = list.len();
                 list.retain(|device| device.id != id);
                 let is_held = list.len() < count;
+                // DIFFERENCES.md: "Releasing again is `AlreadyReleased` | `DeviceManager`: both or
+                // neither. Releasing again is `NeverAllocated`."
                 let released = match form {
                     5 | 6 => devices.release(id),
                     _ => refused(devices.try_release(id)),
@@ -794,6 +796,7 @@ fn expect_in_lines(value: &dyn Debug) {
 }
 
 /// Checks the names and values of fields. An allocator shows its allocated ranges and not its tree.
+// DIFFERENCES.md: "Debug texts show trees | Allocated ranges"
 #[test]
 fn debug_texts_show_the_fields() {
     let mut space = AddressAllocator::new(16, 4).unwrap();

@@ -118,6 +118,8 @@ const OF_SPACES: [Calls<AddressAllocator>; 19] = [
     },
 ];
 
+// DIFFERENCES.md: "by their shape | By their blocks in order"
+
 /// Two spaces that differ in their first range.
 const OF_PAIRS: [Calls<[AddressAllocator; 2]>; 1] = [|[one, other], _| {
     one != other && one.cmp(&other).is_lt() && one.partial_cmp(&other) == Some(Ordering::Less)
