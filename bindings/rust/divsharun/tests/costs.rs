@@ -20,9 +20,10 @@ use std::cmp::Ordering;
 /// if the call is quick in the first one.
 const COUNTS: [u64; 2] = [300, 1_000_000];
 /// The limit of the growth of a quick call.
-const LIMIT: u64 = 10;
-/// The same for a call that goes through all items. A quadratic one grows by more than a million.
-const LINEAR_LIMIT: u64 = 20_000;
+const LIMIT: u64 = 20;
+/// The same for a call that goes through all items. A quadratic one grows by more than a million. Page faults and the
+/// caches of other processes can lengthen a linear one.
+const LINEAR_LIMIT: u64 = 200_000;
 
 /// Calls of an object at an address or id of one of its items. They change nothing in the end, and
 /// return whether the results were right.
@@ -332,20 +333,24 @@ const OF_PAIRS_OF_MAPS: [Calls<[RangeMap<u64>; 2]>; 2] = [
     |[one, _], _| one.iter().rev().count() as u64 == one.held_count(),
 ];
 
+#[cfg(feature = "serde")]
+type Objects = (AddressAllocator, IdAllocator, DeviceManager, RangeMap<u64>);
+
 /// Writes and reads objects of each kind.
 #[cfg(feature = "serde")]
-const OF_SAVED: [Calls<(AddressAllocator, IdAllocator, DeviceManager)>; 5] = [
-    |(space, _, _), _| is_read_again(space) && is_read_again(&Strict::from(space.clone())),
-    |(_, ids, _), _| is_read_again(ids),
-    |(_, _, devices), _| is_read_again(devices),
-    |(space, _, devices), _| {
+const OF_SAVED: [Calls<Objects>; 6] = [
+    |(space, ..), _| is_read_again(space) && is_read_again(&Strict::from(space.clone())),
+    |(_, ids, ..), _| is_read_again(ids),
+    |(_, _, devices, _), _| is_read_again(devices),
+    |(.., map), _| is_read_again(map),
+    |(space, _, devices, _), _| {
         let views = (space.try_saved().unwrap(), devices.try_saved().unwrap());
         let bytes = [packed::to_bytes(&views.0), packed::to_bytes(&views.1)];
         bytes.map(Result::unwrap)
             == [packed::to_bytes(space), packed::to_bytes(devices)].map(Result::unwrap)
     },
     // The device with the highest id is read first.
-    |(_, _, devices), _| {
+    |(_, _, devices, _), _| {
         let (mut high, last) = (devices.clone(), devices.device_count() as u32 - 1);
         let released = (0..last).all(|id| high.release(id) == Ok(()));
         let bytes = packed::to_bytes(&high).unwrap();
@@ -491,7 +496,7 @@ fn calls_go_through_all_items_once() {
     expect_linear(|count| [count; 2].map(map), &OF_PAIRS_OF_MAPS);
     #[cfg(feature = "serde")]
     expect_linear(
-        |count| (space(count), freed(count), devices(count)),
+        |count| (space(count), freed(count), devices(count), map(count)),
         &OF_SAVED,
     );
 }
