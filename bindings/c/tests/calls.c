@@ -951,7 +951,7 @@ static void read_texts(void) {
     /* Limits that no text exceeds. */
     for (i = 0; i < sizeof readings / sizeof readings[0]; i++) {
         give_text(readings[i].text, strlen(readings[i].text), UINT32_MAX);
-        given.limits.length = BASE + 1;
+        given.limits.length = i % 2 == 0 ? SIZE_MAX : BASE + 1;
         CHECK(attempt(readings[i].call, NULL, bad) == DVS_OK);
         destroy(readings[i].group, created(readings[i].group));
     }
@@ -1161,6 +1161,8 @@ static void say_numbers(void) {
         char line[200], whole[200];
 
         CHECK(dvs_refusal_text(rows[i].status, &told, NULL, 0) == length);
+        CHECK(dvs_refusal_text(rows[i].status, &told, line, SIZE_MAX) == length);
+        CHECK(strcmp(line, text) == 0);
         for (room = 0; room <= length + 2; room++) {
             memset(line, UNTOUCHED, sizeof line);
             CHECK(dvs_refusal_text(rows[i].status, &told, line, room) == length);
