@@ -4,9 +4,9 @@
     mutant_tests.py PROJECT SCRATCH [MUTANT ..]
 
 No clause excludes these mutants. The first line of one names the check and parts of its output, as in
-`CHECK: TEXT & TEXT`. The check is error_rule, count_rule, or a test of divsharun: memory, calls or replay. The rest
-are files, each with the text to replace (-), which it has once in any layout, and the new text (+). The exit status is 1
-if a mutant is not noticed, or if a test fails without one."""
+`CHECK: TEXT & TEXT`. The check is error_rule, count_rule, pages, or a test of divsharun: memory, calls or replay. The
+rest are files, each with the text to replace (-), which it has once in any layout, and the new text (+). The exit status
+is 1 if a mutant is not noticed, or if a test fails without one."""
 import collections
 import glob
 import os
@@ -19,7 +19,7 @@ import sys
 TOP = os.path.dirname(os.path.dirname(os.path.abspath(__file__)))
 PROJECT, SCRATCH = (os.path.abspath(argument) for argument in sys.argv[1:3])
 COPY, DIVSHARUN = os.path.join(SCRATCH, "project"), os.path.join(SCRATCH, "rust", "divsharun")
-RULES = ("count_rule", "error_rule")
+RULES = ("count_rule", "error_rule", "pages")
 # A backtrace would take longer than the test.
 ENVIRONMENT = dict(os.environ, CARGO_TARGET_DIR=os.path.join(SCRATCH, "target"), RUST_BACKTRACE="0")
 
@@ -36,7 +36,7 @@ def make(mutant):
         if not source.exists():
             return f"there is no {path}: name the file of today"
         pattern = r"\s+".join(map(re.escape, re.sub(r"^-", "", old, flags=re.M).split()))
-        text, count = re.subn(pattern, lambda _: re.sub(r"^\+", "", new, flags=re.M), source.read_text("utf-8"))
+        text, count = re.subn(pattern, lambda _: re.sub(r"^\+", "", new, flags=re.M).strip(), source.read_text("utf-8"))
         if count != 1:
             return f"{path} has {old!r} {count} times: name the text of today"
         source.write_text(text, "utf-8")
@@ -46,13 +46,16 @@ def make(mutant):
 def output_of(check, mutant=None):
     """Makes a mutant in a copy of the sources. Returns the status and the output of a check."""
     shutil.rmtree(COPY, ignore_errors=True)
-    others = shutil.ignore_patterns("must-fail", "out", "proofs", "specs")
-    shutil.copytree(os.path.join(PROJECT, "crates"), os.path.join(COPY, "crates"), ignore=others)
+    # The rule on pages reads all files of a repository, but must not read this mutant. The others read sources.
+    others = {"target", "build", "out"} | ({".git", "mutants"} if check == "pages" else {"must-fail", "proofs", "specs"})
+    below, rule = ("", COPY) if check == "pages" else ("crates", TOP)
+    shutil.copytree(os.path.join(PROJECT, below), os.path.join(COPY, below), ignore=shutil.ignore_patterns(*others))
     shutil.copy(os.path.join(PROJECT, "crates.txt"), COPY)
+    run("git", "init", "-q", COPY)
     if mutant and (wrong := make(mutant)):
         return 1, wrong
     if check in RULES:
-        return run(os.path.join(TOP, "tests", check), COPY)
+        return run(os.path.join(rule, "tests", check), COPY)
     status, output = run(os.path.join(TOP, "bindings/erase/erase.py"), COPY, "src/proved")
     return (status, output) if status else run("cargo", "test", "-q", "--offline", f"--test={check}",
                                                "--config=../without_registry/config.toml")

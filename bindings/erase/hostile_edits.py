@@ -5,9 +5,11 @@
 
 There is one edit for each error of the eraser that protects a proved property, and it must be rejected with exactly
 this error. The prover, rustc or the second eraser rejects what is no item, statement or clause, so no edit is of that
-kind. The exit status is 1 if an edit is accepted, or if its text is not found."""
+kind. The exit status is 1 if an edit is accepted, if its text is not found, or if a table of the eraser has a name that
+no library has."""
 import os
 import pathlib
+import re
 import shutil
 import subprocess
 import sys
@@ -127,6 +129,15 @@ def faults_of_second(project, folder):
     return wrong
 
 
+def unused(project):
+    """Returns the names of the tables that no library has. Each must be compared with Rust, so none is there in advance."""
+    paths = pathlib.Path(project).glob("crates/*/src/**/*.rt")
+    sources = "".join(path.read_text("utf-8") for path in paths if not re.search("tests/", str(path)))
+    used = set(re.findall(r"\.\w+(?=\()|\w+!|[\w:]+\w", re.sub("//.*", "", sources)))
+    names = {f".{name}" for name in erase.METHODS} | {f"{name}!" for name in erase.MACROS} | erase.ASSOCIATED
+    return sorted(names - used)
+
+
 def main():
     if len(sys.argv) != 2:
         sys.exit(__doc__)
@@ -141,6 +152,7 @@ def main():
         found += [(code, error_of(project, code, True), error) for code, error in OF_TESTS]
         wrong = faults_of_program(project, os.path.join(project, "out"))
     wrong += [f"{code}: {error}, instead of: {expected}" for code, error, expected in found if error != expected]
+    wrong += [f"{name} is in a table of the eraser, and no library has it" for name in unused(sys.argv[1])]
     print(*wrong, f"{len(found)} hostile edits, {len(wrong)} faults", sep="\n")
     sys.exit(len(wrong) > 0)
 

@@ -42,7 +42,7 @@ class card {
 static std::string plug_cards(dvs::address_allocator &mmio) {
     using dvs::request;
     const std::vector<request> bars = {
-        request::first(0x4000, 0x4000).within({0, 0xfebfffff}),
+        request::last(0x4000, 0x4000).within({0, 0xfebfffff}),
         request::first(0x10000000, 0x10000000).within({0x100000000, UINT64_MAX})};
     dvs::id_allocator interrupts;
     std::string saved;
@@ -72,7 +72,7 @@ static void run() {
     check(restored.read(plug_cards(mmio)), "the snapshot");
     check(mmio.for_each([](dvs_range range) { return print("still allocated", range); }),
           "the ranges");
-    if (restored.allocate(dvs::request::exact(16, 16, 0xc0000010), bar, &refusal))
+    if (restored.allocate(dvs::request::exact(16, 16, 0xfebfc010), bar, &refusal))
         print("in the way", refusal.other);
 
     check(bus.make(5, 23, 0xe0000000, 0x100000), "the bus");

@@ -80,7 +80,7 @@ func unplug(mmio *C.dvs_address_allocator, interrupts *C.dvs_id_allocator, card 
 // It returns a snapshot of what was allocated.
 func plugCards(mmio *C.dvs_address_allocator) []byte {
 	requests := []C.dvs_request{
-		{size: 0x4000, alignment: 0x4000, policy: C.DVS_FIRST, high: 0xfebfffff},
+		{size: 0x4000, alignment: 0x4000, policy: C.DVS_LAST, high: 0xfebfffff},
 		{size: 0x10000000, alignment: 0x10000000, policy: C.DVS_FIRST, low: 0x100000000},
 	}
 	tooLarge := []C.dvs_request{requests[0],
@@ -118,7 +118,7 @@ func main() {
 	showAll("still allocated", mmio)
 	var bar C.dvs_range
 	var details C.dvs_refusal
-	if C.dvs_range_allocate_exact(restored, 16, 16, 0xc0000010, &bar, &details) != C.DVS_OK {
+	if C.dvs_range_allocate_exact(restored, 16, 16, 0xfebfc010, &bar, &details) != C.DVS_OK {
 		show("in the way", details.other)
 	}
 

@@ -82,7 +82,7 @@ def plug_cards(mmio):
     """Plugs a card that is too large, and three cards for two interrupts, and unplugs them. Returns a
     snapshot of what was allocated."""
     bars = [
-        {"size": 0x4000, "alignment": 0x4000, "policy": dvs.DVS_FIRST, "high": 0xfebfffff},
+        {"size": 0x4000, "alignment": 0x4000, "policy": dvs.DVS_LAST, "high": 0xfebfffff},
         {"size": 0x10000000, "alignment": 0x10000000, "policy": dvs.DVS_FIRST, "low": 0x100000000},
     ]
     large = {"size": 0x1000000000, "alignment": 0x1000000000, "policy": dvs.DVS_FIRST}
@@ -121,7 +121,7 @@ def main():
     for bar in ranges(mmio):
         show("still allocated", bar)
     bar, details = ffi.new("dvs_range *"), ffi.new("dvs_refusal *")
-    if dvs.dvs_range_allocate_exact(restored, 16, 16, 0xc0000010, bar, details) != dvs.DVS_OK:
+    if dvs.dvs_range_allocate_exact(restored, 16, 16, 0xfebfc010, bar, details) != dvs.DVS_OK:
         show("in the way", details.other)
     bus = created("device_manager", dvs.dvs_device_manager_new, 5, 23, 0xe0000000, 0x100000)
     disk = ffi.new("dvs_device *")

@@ -8,7 +8,6 @@
 #include "every_call.h"
 
 #include <limits.h>
-#include <time.h>
 
 /* ---- Calls with numbers ---- */
 
@@ -759,222 +758,6 @@ static void copy_objects(void) {
     }
 }
 
-/* ---- The cost of a cause ---- */
-
-#ifdef SANITIZED
-/* The calls of the test cost much more then, and those of the library do not. */
-static void look_for_no_cause(void) {}
-#else
-enum { ROUNDS = 1000, TRIES = 2000 };
-
-/* Returns the processor time of requests whose addresses are allocated. */
-static clock_t time_refused(int call, void *object) {
-    const clock_t begun = clock();
-    uint64_t i;
-
-    for (i = 1; i < TRIES; i++) {
-        const uint64_t numbers[] = {2, 2, 4 * i, 0};
-        const dvs_request request = {2, 2, 4 * i, DVS_EXACT, 0, 0};
-        const dvs_request requests[] = {request, request};
-
-        given.request = requests;
-        CHECK(make_call(call, object, numbers) == DVS_RESOURCE_NOT_AVAILABLE);
-    }
-    return clock() - begun;
-}
-
-/* Checks that a call without a refusal looks for no cause. Other processes only add time, so the
- * shortest rounds are compared, in as many rounds as it takes. */
-static void look_for_no_cause(void) {
-    static const int calls[] = {EXACT, MOVE, MOVE_REQUEST, REQUEST, LIST, RESERVE_EXACT, RESERVE};
-    dvs_address_allocator *space;
-    dvs_device_manager *manager;
-    dvs_device device;
-    uint64_t at;
-    size_t i;
-    int round;
-
-    CHECK(dvs_address_allocator_new(0, 4 * TRIES, &space) == DVS_OK);
-    CHECK(dvs_device_manager_new(0, TRIES, 0, 4 * TRIES, &manager, NULL) == DVS_OK);
-    /* MOVE moves this range. */
-    CHECK(dvs_range_allocate_exact(space, 1, 1, 2, &device.range, NULL) == DVS_OK);
-    for (at = 4; at < 4 * TRIES; at += 4) {
-        CHECK(dvs_range_allocate_exact(space, 3, 1, at, &device.range, NULL) == DVS_OK);
-        CHECK(dvs_device_reserve_exact(manager, 3, 1, at, &device, NULL) == DVS_OK);
-    }
-    given = usual;
-    for (i = 0; i < sizeof calls / sizeof calls[0]; i++) {
-        clock_t with = 0, without = 0;
-
-        for (round = 0; 5 * without >= 4 * with && round < ROUNDS; round++) {
-            void *object = calls[i] < ID ? (void *)space : (void *)manager;
-            clock_t time;
-
-            given.has_no_refusal = false;
-            time = time_refused(calls[i], object);
-            with = round == 0 || time < with ? time : with;
-            given.has_no_refusal = true;
-            time = time_refused(calls[i], object);
-            without = round == 0 || time < without ? time : without;
-        }
-        CHECK(5 * without < 4 * with);
-    }
-    destroy(0, space);
-    destroy(2, manager);
-}
-#endif
-
-/* ---- Calls in constant or logarithmic time ---- */
-
-/* A number of a call near an address, and the id of its device. */
-#define NEAR(distance) (PART(1) + (distance))
-#define NTH PART(2)
-#define FAR PART(8)
-
-enum { FEW = 1000, LOTS = 100000, PLACES = 1000, LIMIT = 20 };
-
-/* Each with the call that undoes a change. */
-static const struct quick {
-    int call;
-    uint64_t numbers[3];
-    int undo;
-} quick[] = {
-    {SPACE, {0}, 0},
-    {IS_ALLOCATED, {NEAR(0), NEAR(1)}, 0},
-    {COUNT, {0}, 0},
-    {GAP_COUNT, {0}, 0},
-    {FREE_LENGTH, {0}, 0},
-    {LONGEST_GAP, {0}, 0},
-    {RANGE_AT, {NEAR(1)}, 0},
-    {GAP_AT, {NEAR(2)}, 0},
-    {LIST_RANGES, {NEAR(2)}, 0},
-    {LIST_GAPS, {NEAR(2)}, 0},
-    {CONFLICT, {0}, 0},
-    {VISIT_IN, {NEAR(0), NEAR(3)}, 0},
-    {GAPS_IN, {NEAR(0), NEAR(3)}, 0},
-    {VISIT_FROM, {NEAR(2)}, 0},
-    {VISIT_BACK, {0, NEAR(2)}, 0},
-    {GAPS_FROM, {NEAR(0)}, 0},
-    {GAPS_BACK, {0, NEAR(0)}, 0},
-    {FIRST, {1, 1}, FREE},
-    {LAST, {1, 1}, FREE},
-    {EXACT, {1, 1, NEAR(2)}, FREE},
-    {REQUEST, {0}, FREE},
-    {MOVE, {NEAR(0), NEAR(1), NEAR(2)}, MOVE},
-    {MOVE_REQUEST, {NEAR(0), NEAR(1)}, MOVE},
-    {PEEK, {0}, 0},
-    {IS_ID_HELD, {NEAR(0)}, 0},
-    {ID_COUNT, {0}, 0},
-    {FREE_COUNT, {0}, 0},
-    {ID_ENDS, {0}, 0},
-    {ID, {0}, FREE_ID},
-    {ID_EXACT, {NEAR(1)}, FREE_ID},
-    {ID_IN, {NEAR(2), NEAR(3)}, FREE_ID},
-    {DEVICE_SLOT, {NTH}, 0},
-    {DEVICE_AT, {NEAR(1)}, 0},
-    {DEVICE_COUNT, {0}, 0},
-    {DEVICE_SPACE, {0}, 0},
-    {DEVICE_IDS, {0}, 0},
-    {DEVICE_CONFLICT, {0}, 0},
-    {RESERVE_FIRST, {1, 1}, RELEASE},
-    {RESERVE_LAST, {1, 1}, RELEASE},
-    {RESERVE_EXACT, {1, 1, NEAR(2)}, RELEASE},
-    {RESERVE, {0}, RELEASE},
-};
-
-/* Makes objects with a range, an id and a device at each multiple of 4 from FAR, which is 0 for
- * ids. In the first and the last quarter of the addresses, and in the first of the ids, none is
- * free. */
-static void make_many(uint32_t count, void **many) {
-    dvs_range *ranges = (dvs_range *)malloc(count * sizeof *ranges);
-    uint32_t *ids = (uint32_t *)malloc(count * sizeof *ids), i, id;
-    dvs_device device;
-
-    CHECK(dvs_device_manager_new(0, count, FAR, 4 * count, &results.manager, NULL) == DVS_OK);
-    for (i = 0; i < count; i++) {
-        const uint64_t start = FAR + 4 * i, size = i < count / 4 || i >= 3 * count / 4 ? 4 : 2;
-
-        ids[i] = 4 * i;
-        ranges[i] = range_of(start, start + size - 1);
-        CHECK(dvs_device_reserve_exact(results.manager, size, 1, start, &device, NULL) == DVS_OK);
-    }
-    CHECK(dvs_address_allocator_with_held(FAR, 4 * count, ranges, count, &results.space, NULL,
-                                          NULL) == DVS_OK);
-    CHECK(dvs_id_allocator_with_held(0, 4 * count, ids, count, &results.ids, NULL) == DVS_OK);
-    for (i = 0; i < 3 * count / 4; i++)
-        CHECK(dvs_id_allocate(results.ids, &id) == DVS_OK);
-    for (i = 0; i < 3; i++)
-        many[i] = created(i);
-    free(ids);
-    free(ranges);
-}
-
-/* Returns the processor time of a call at many places. */
-static clock_t time_quick(const struct quick *row, void *object, uint64_t count) {
-    const clock_t begun = clock();
-    uint64_t i, j;
-
-    for (i = 0; i < PLACES; i++) {
-        const uint64_t nth = count / 4 + 1 + i * 7919 % (count / 2 - 2), at = FAR + 4 * nth;
-        const dvs_request request = {2, 2, at + 2, DVS_EXACT, 0, 0};
-        uint64_t numbers[4] = {0, 0, 0, 0};
-
-        given.request = &request;
-        for (j = 0; j < 3; j++)
-            numbers[j] = row->numbers[j] == NTH       ? nth
-                         : row->numbers[j] >= NEAR(0) ? at + (row->numbers[j] - NEAR(0))
-                                                      : row->numbers[j];
-        results.device.id = (uint32_t)at + 1;
-        CHECK(make_call(row->call, object, numbers) == DVS_OK);
-        numbers[0] = row->undo < ID ? results.device.range.start : results.device.id;
-        numbers[1] = results.device.range.end;
-        numbers[2] = at;
-        CHECK(row->undo == 0 || make_call(row->undo, object, numbers) == DVS_OK);
-    }
-    return clock() - begun;
-}
-
-/* divsharun.h: "Calls on one id, device or range of a map take logarithmic time too, also if they
- * skip ids. An allocation in a map can also move its values, in linear time. Counts,
- * dvs_longest_gap() and the ends of a space or of a range of ids take constant time." */
-
-/* divsharun.h: "Let k be the number of allocated ranges. Allocating, moving and freeing a range
- * takes time of the order of log k, and so do dvs_range_conflict(), dvs_range_is_allocated(),
- * dvs_range_at() and dvs_gap_at(). An alignment can make the search for a range visit more gaps. A
- * visit or list within a range or from an address takes time of the order of log k, plus the number
- * of allocated ranges and gaps up to where it ends." */
-
-/* Compares the shortest times in small and in large objects. A linear call takes a hundred times as
- * long. */
-static void be_quick(void) {
-    void *few[3], *lots[3];
-    size_t i;
-    int round;
-
-    make_many(FEW, few);
-    make_many(LOTS, lots);
-    given = usual;
-    for (i = 0; i < sizeof quick / sizeof quick[0]; i++) {
-        clock_t in_few = 0, in_lots = 0;
-
-        visited = group_of(quick[i].call);
-        for (round = 0; round < 3; round++) {
-            clock_t time = time_quick(&quick[i], few[visited], FEW);
-
-            in_few = round == 0 || time < in_few ? time : in_few;
-            time = time_quick(&quick[i], lots[visited], LOTS);
-            in_lots = round == 0 || time < in_lots ? time : in_lots;
-        }
-        if (in_lots >= LIMIT * in_few)
-            fprintf(stderr, "call %d: %d and %d\n", quick[i].call, (int)in_few, (int)in_lots);
-        CHECK(in_lots < LIMIT * in_few);
-    }
-    for (i = 0; i < 3; i++) {
-        destroy((int)i, few[i]);
-        destroy((int)i, lots[i]);
-    }
-}
-
 /* ---- Texts ---- */
 
 #define SPACE_TEXT                                                                                 \
@@ -1168,7 +951,7 @@ static void read_texts(void) {
     /* Limits that no text exceeds. */
     for (i = 0; i < sizeof readings / sizeof readings[0]; i++) {
         give_text(readings[i].text, strlen(readings[i].text), UINT32_MAX);
-        given.limits.length = BASE + 1;
+        given.limits.length = i % 2 == 0 ? SIZE_MAX : BASE + 1;
         CHECK(attempt(readings[i].call, NULL, bad) == DVS_OK);
         destroy(readings[i].group, created(readings[i].group));
     }
@@ -1378,6 +1161,8 @@ static void say_numbers(void) {
         char line[200], whole[200];
 
         CHECK(dvs_refusal_text(rows[i].status, &told, NULL, 0) == length);
+        CHECK(dvs_refusal_text(rows[i].status, &told, line, SIZE_MAX) == length);
+        CHECK(strcmp(line, text) == 0);
         for (room = 0; room <= length + 2; room++) {
             memset(line, UNTOUCHED, sizeof line);
             CHECK(dvs_refusal_text(rows[i].status, &told, line, room) == length);
@@ -1427,8 +1212,6 @@ int main(void) {
     give_null();
     change_in_visits();
     copy_objects();
-    look_for_no_cause();
-    be_quick();
     read_texts();
     refuse_fields();
     escape_each_byte();

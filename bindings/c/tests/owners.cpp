@@ -626,6 +626,8 @@ static void compare_errors() {
     CHECK(dvs::text_of(dvs::error(DVS_RESOURCE_NOT_AVAILABLE), refusal) ==
           "0xfeb00000-0xfeb0ffff overlaps 0x1-0x2");
     CHECK(dvs::text_of(failure, refusal) == std::string("0xfeb00000-0xfeb0ffff overlaps 0x1-0x2"));
+    const dvs_refusal none = {range_of(0, 0), range_of(0, 0), 0, 0, DVS_CAUSE_NONE};
+    CHECK(dvs::text_of(dvs::error(DVS_OVERFLOW), none) == dvs_status_text(DVS_OVERFLOW));
     CHECK(space.make(UINT64_MAX, 1) == DVS_OK);
     std::error_code plain = failure;
     CHECK(plain == failure && plain.message() == dvs_status_text(DVS_OVERFLOW));

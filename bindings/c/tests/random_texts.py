@@ -32,12 +32,12 @@ MALFORMED = [
     b"+1", b"1.", b".5", b"1.e5", b"1e", b"1e+", b"--1", b"-", b"0x1", b"nul", b"nulls", b"True", b'"\t"',
     b'"\\x"', b'"\\u12"', b'"\\u12g4"', b'"\\ud800"', b'"\\ud800\\u0041"', b'"\\ud83d\\de00"', b'"\\ud83dude00"',
     b'"\\udc00"', b'"', b'"\\', b"[1] 2",
-    b"/**/1", b"\xc3", b"\xed\xa0\x80", b"1e309", b"9" * 400, b"NaN", b"[" * 129 + b"]" * 129, b"[" * 100000,
+    b"/**/1", b"\xc3", b"\xed\xa0\x80", b"1e309", b"-1e309", b"1.7976931348623159e308", b"9" * 400, b"NaN", b"[" * 129 + b"]" * 129, b"[" * 100000,
     b'{"a":' * 100000, b"\xef\xbb\xbf1", b"1\x00", b"\x0b1", b"[1\xc2\xa0]", b"{}\xc2\xa0", b"\xe2\x80\xa8{}"]
 WELL_FORMED = [
     b"0", b"-0", b"1.5e-3", b"null", b" true ", b'"\\ud83d\\ude00\\/\\b\\f\\n\\r\\t"', b"[" * 128 + b"]" * 128,
     b"{}", b"[]", b'{"a":1,"a":2}', b"\r\n[\t1 , 2 ]\n", b'"\xe2\x82\xac"', b"1E+2", b"18446744073709551616",
-    b"0.0"]
+    b"0.0", b"-1.7976931348623157e308", b"1e-999"]
 # Each byte between tokens, at both ends, in a string and in an escape, and each end of the surrogates.
 PLACES = (b"[1?,2]", b"?0", b"{}?", b'"?"', b'"\\?"')
 EACH_BYTE = [place.replace(b"?", bytes([byte])) for byte in range(256) for place in PLACES]

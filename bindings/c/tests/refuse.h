@@ -14,7 +14,9 @@
 /* The number of allocations up to the one that fails, or 0 if none fails. */
 static unsigned long until_refused;
 /* The number of blocks that are allocated, their bytes, and the maximum of the bytes. */
+#ifndef blocks
 static long blocks;
+#endif
 static size_t bytes, most_bytes;
 
 /* Returns the bytes of a block, with the word that glibc's malloc adds. */

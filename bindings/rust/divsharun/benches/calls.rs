@@ -9,7 +9,7 @@ use divsharun::{AddressAllocator, AllocPolicy, IdAllocator, RangeInclusive};
 use std::hint::black_box;
 use std::iter::repeat_with;
 use std::time::{Duration, Instant};
-use workload::{library, Cache, Call, Devices, Draw};
+use workload::{library, median, Cache, Call, Devices, Draw};
 
 library!(Divsharun, divsharun);
 
@@ -61,10 +61,8 @@ fn main() {
 }
 
 /// Returns the median of the times that `measure` returns in this number of rounds.
-fn median(rounds: u64, measure: impl FnMut() -> f64) -> f64 {
-    let mut times: Vec<f64> = repeat_with(measure).take(rounds as usize).collect();
-    times.sort_by(f64::total_cmp);
-    times[times.len() / 2]
+fn median_of(rounds: u64, measure: impl FnMut() -> f64) -> f64 {
+    median(repeat_with(measure).take(rounds as usize).collect())
 }
 
 /// Makes a call. Returns its time and its result.
@@ -103,7 +101,7 @@ const QUERIES: [(&str, Query); 2] = [
 fn time_of_query(count: u64, rounds: u64, query: Query) -> f64 {
     let (space, _) = pages(count, 0x2000);
     let mut draw = Draw::from_seed(count);
-    median(rounds, || {
+    median_of(rounds, || {
         let windows: Vec<_> = (0..1000)
             .map(|_| page_at(0x2000 * draw.below(count) + 0x800))
             .collect();
@@ -148,7 +146,7 @@ const WHOLE: [(&str, Whole); 6] = [
 /// between them.
 fn time_of_whole(count: u64, rounds: u64, whole: Whole) -> f64 {
     let (space, held) = pages(count, 0x2000);
-    median(rounds, || {
+    median_of(rounds, || {
         whole(&space, &held).as_nanos() as f64 / count as f64
     })
 }
@@ -173,7 +171,7 @@ const MOVES: [(&str, Move); 2] = [
 fn time_of_move(count: u64, rounds: u64, to: Move) -> f64 {
     let (mut space, mut held) = pages(count, 0x4000);
     let mut draw = Draw::from_seed(count);
-    median(rounds, || {
+    median_of(rounds, || {
         let chosen: Vec<_> = (0..1000).map(|_| draw.below(count) as usize).collect();
         let (time, ()) = timed(|| {
             for number in &chosen {
@@ -204,7 +202,7 @@ const ALLOCATIONS_OF_64: [(&str, Allocate); 2] = [
 fn time_of_64_ids(count: u64, rounds: u64, allocate: Allocate) -> f64 {
     let held: Vec<u32> = (0..count as u32).map(|number| 2 * number + 1).collect();
     let mut ids = IdAllocator::with_held(0, u32::MAX, &held).expect("ids in order");
-    median(rounds, || {
+    median_of(rounds, || {
         let (time, list) = timed(|| allocate(&mut ids));
         assert_eq!(list.len(), 64);
         for id in list {

@@ -1,5 +1,15 @@
 // SPDX-License-Identifier: Apache-2.0 OR BSD-3-Clause
-//! Prints the address space of a machine like `/proc/iomem`, with the names of its devices.
+//! Prints the address space of a machine like `/proc/iomem`, with the names of its devices:
+//!
+//!     c000-c01f : held
+//!     c020-cfff : gap
+//!
+//!     d0000000-d0000fff : gap
+//!     d0001000-d0001fff : virtio-net
+//!     d0002000-d7ffffff : gap
+//!     d8000000-d8000fff : held
+//!     d8001000-deffffff : gap
+//!     df000000-dfffffff : vga
 
 use divsharun::{AddressAllocator, AllocPolicy, Result};
 

@@ -2,10 +2,12 @@
 //! Guards against a benchmark that measures another call, another round or another cache than it names. A library
 //! that does nothing counts the calls, and one call takes a known time.
 
+mod refusing;
 #[allow(dead_code, unused_imports, unused_macros)]
 #[path = "../benches/workload/mod.rs"]
 mod workload;
 
+use refusing::{peak_of, refusing};
 use std::cell::Cell;
 use std::time::{Duration, Instant};
 use workload::{Answer, Cache, Call, Devices, Library, Place};
@@ -98,4 +100,17 @@ fn a_warm_cache_needs_more_calls() {
     }
     assert_eq!(counts_of(Call::First, Cache::Cold)[1], ROUNDS * CALLS);
     assert_eq!(counts_of(Call::Last, Cache::Cold)[2], ROUNDS * CALLS);
+}
+
+#[test]
+fn other_memory_is_read_before_each_cold_call() {
+    for call in [Call::Free, Call::FreeId] {
+        let measure = |cache| {
+            Devices::new(10).measure::<Idle>(call, cache, ROUNDS);
+        };
+        let [warm, cold] = Cache::ALL.map(|cache| peak_of(|| refusing(0, || measure(cache)).1));
+        // Before the ranges or ids of a round are freed, and before they are allocated.
+        assert_eq!(cold.0 - warm.0, 2 * ROUNDS, "{call}");
+        assert!(cold.1 >= 128 << 20 && warm.1 < 1 << 20, "{call}");
+    }
 }

@@ -11,8 +11,8 @@ mod model;
 use divsharun::{
     AddressAllocator, AllocPolicy, Block, Blocks, Conflict, Constraint, DeviceManager, DeviceSlot,
     Devices, Error, Gaps, GapsIn, HeldIds, HeldRanges, HeldRangesIn, IdAllocator, IdRequest,
-    Layout, ListError, NodeState, ParseRangeError, RangeInclusive, RangeMap, TryError,
-    ValuedRanges,
+    Layout, ListError, NodeState, ParseRangeError, RangeInclusive, RangeMap, TryError, ValueError,
+    ValuedRanges, ValuedRangesIn,
 };
 use draw::Draw;
 use items::{exact, expect_in_order, expect_items, inexact};
@@ -20,6 +20,7 @@ use model::{refused, Model, Scale, WIDTH};
 use std::collections::{BTreeSet, HashSet};
 use std::fmt::{Debug, Display};
 use std::hash::{DefaultHasher, Hash, Hasher};
+use std::iter::FusedIterator;
 use std::ops::Bound::{Excluded, Included, Unbounded};
 
 const BASE: u64 = 1000;
@@ -759,6 +760,8 @@ fn devices_are_listed_by_their_ids() {
                 let count = list.len();
                 list.retain(|device| device.id != id);
                 let is_held = list.len() < count;
+                // DIFFERENCES.md: "Releasing again is `AlreadyReleased` | `DeviceManager`: both or
+                // neither. Releasing again is `NeverAllocated`."
                 let released = match form {
                     5 | 6 => devices.release(id),
                     _ => refused(devices.try_release(id)),
@@ -793,6 +796,7 @@ fn expect_in_lines(value: &dyn Debug) {
 }
 
 /// Checks the names and values of fields. An allocator shows its allocated ranges and not its tree.
+// DIFFERENCES.md: "Debug texts show trees | Allocated ranges"
 #[test]
 fn debug_texts_show_the_fields() {
     let mut space = AddressAllocator::new(16, 4).unwrap();
@@ -935,7 +939,7 @@ const ROWS: [Row; 4] = [
         [
             "d0000000",
             "4 KiB",
-            "a&lt;b&gt; &amp;amp; \u{fffd}\u{fffd}ü\"",
+            "a&lt;b&gt; &amp;amp; \u{fffd}\u{fffd}\u{fffd}\u{fffd}\u{10000}ü\"",
         ],
     ),
     ("gap", 14 + 7, ["d0001000", "1020 KiB", "gap"]),
@@ -983,7 +987,9 @@ fn a_picture_has_a_row_for_each_block() {
     let exact = AllocPolicy::ExactMatch;
     let named = space.allocate(0x1000, 1, exact(0xd000_0000)).unwrap();
     space.allocate(0x18_0000, 1, exact(0xd010_0000)).unwrap();
-    let layout = space.layout().named([(named, "a<b> &amp; \n\u{ffff}ü\"")]);
+    let layout = space
+        .layout()
+        .named([(named, "a<b> &amp; \n\u{1f}\u{fffe}\u{ffff}\u{10000}ü\"")]);
     expect_picture(&layout.svg(), &ROWS);
     let mut space = AddressAllocator::new(0, u64::MAX).unwrap();
     let named = space.allocate(1, 1, exact(0)).unwrap();
@@ -1647,32 +1653,49 @@ fn counts_and_heights_have_their_bounds() {
     assert_eq!(range, RangeInclusive::new(1, 3));
 }
 
-/// Checks that every public type is `Send` and `Sync`.
+/// Names each public type with its traits. All are `Send` and `Sync`.
 #[test]
-fn types_are_shared_and_sent() {
-    fn is_shared_and_sent<T: Send + Sync>() {}
-    is_shared_and_sent::<AddressAllocator>();
-    is_shared_and_sent::<IdAllocator>();
-    is_shared_and_sent::<DeviceManager>();
-    is_shared_and_sent::<DeviceSlot>();
-    is_shared_and_sent::<HeldRanges<'_>>();
-    is_shared_and_sent::<HeldRangesIn<'_>>();
-    is_shared_and_sent::<Gaps<'_>>();
-    is_shared_and_sent::<GapsIn<'_>>();
-    is_shared_and_sent::<HeldIds<'_>>();
-    is_shared_and_sent::<Devices<'_>>();
-    is_shared_and_sent::<RangeMap<u64>>();
-    is_shared_and_sent::<ValuedRanges<'_, u64>>();
-    is_shared_and_sent::<Layout<'_>>();
-    is_shared_and_sent::<Blocks<'_>>();
-    is_shared_and_sent::<Block<'_>>();
-    is_shared_and_sent::<RangeInclusive>();
-    is_shared_and_sent::<NodeState>();
-    is_shared_and_sent::<Constraint>();
-    is_shared_and_sent::<AllocPolicy>();
-    is_shared_and_sent::<Conflict>();
-    is_shared_and_sent::<Error>();
-    is_shared_and_sent::<TryError>();
-    is_shared_and_sent::<ListError<TryError>>();
-    is_shared_and_sent::<ParseRangeError>();
+fn types_have_their_traits() {
+    fn values<T: Copy + Ord + Hash + Debug + Send + Sync>() {}
+    values::<(RangeInclusive, Error, TryError, NodeState)>();
+    values::<(ListError, ListError<TryError>, Conflict)>();
+    values::<(ValueError<u64>, ValueError<u64, TryError>)>();
+    fn plain<T: Copy + Eq + Debug + Send + Sync>() {}
+    plain::<(DeviceSlot, Block<'_>, IdRequest, ParseRangeError)>();
+    fn requests<T: Copy + Eq + Hash + Debug + Send + Sync>() {}
+    requests::<(Constraint, AllocPolicy)>();
+    fn objects<T: Clone + Eq + Debug + Send + Sync>() {}
+    objects::<(IdAllocator, DeviceManager, RangeMap<u64>)>();
+    fn ordered<T: Clone + Ord + Debug + Send + Sync>() {}
+    ordered::<AddressAllocator>();
+    fn shown<T: Clone + Debug + Display + Send + Sync>() {}
+    shown::<Layout<'_>>();
+    shown::<Block<'_>>();
+    shown::<RangeInclusive>();
+    fn errors<T: std::error::Error + Send + Sync + 'static>() {}
+    errors::<Error>();
+    errors::<TryError>();
+    errors::<ParseRangeError>();
+    errors::<ListError<TryError>>();
+    errors::<ValueError<u64, TryError>>();
+    fn iterators<T: DoubleEndedIterator + FusedIterator + Clone + Debug + Send + Sync>() {}
+    iterators::<HeldRangesIn<'_>>();
+    iterators::<GapsIn<'_>>();
+    iterators::<ValuedRangesIn<'_, String>>();
+    fn counted<T: ExactSizeIterator + DoubleEndedIterator + FusedIterator + Clone + Debug>() {}
+    counted::<HeldRanges<'_>>();
+    counted::<Gaps<'_>>();
+    counted::<HeldIds<'_>>();
+    counted::<Devices<'_>>();
+    counted::<Blocks<'_>>();
+    counted::<ValuedRanges<'_, String>>();
+    fn shared<T: Send + Sync>() {}
+    shared::<(
+        HeldRanges<'_>,
+        Gaps<'_>,
+        HeldIds<'_>,
+        Devices<'_>,
+        Blocks<'_>,
+    )>();
+    shared::<ValuedRanges<'_, u64>>();
 }

@@ -16,14 +16,14 @@ use divsharun::{
 use processor::processor_time;
 use std::cmp::Ordering;
 
-/// The limit of the growth of a quick call. The second object has a hundred times as many items, and a
-/// linear call takes a hundred times as long in it.
+/// The numbers of items. A call that moves a word of each item takes a hundred times as long in the second object, also
+/// if the call is quick in the first one.
+const COUNTS: [u64; 2] = [300, 1_000_000];
+/// The limit of the growth of a quick call.
 const LIMIT: u64 = 20;
-const COUNTS: [u64; 2] = [300, 30_000];
-/// The same for a call that goes through all items. A quadratic one takes 900 times as long.
-const LINEAR_LIMIT: u64 = 200;
-const LINEAR_COUNTS: [u64; 2] = [300, 9_000];
-const ROUNDS: usize = 5;
+/// The same for a call that goes through all items. A quadratic one grows by more than a million. Page faults and the
+/// caches of other processes can lengthen a linear one.
+const LINEAR_LIMIT: u64 = 200_000;
 
 /// Calls of an object at an address or id of one of its items. They change nothing in the end, and
 /// return whether the results were right.
@@ -118,6 +118,8 @@ const OF_SPACES: [Calls<AddressAllocator>; 19] = [
             && AddressAllocator::new(at, space.end()).is_ok()
     },
 ];
+
+// DIFFERENCES.md: "by their shape | By their blocks in order"
 
 /// Two spaces that differ in their first range.
 const OF_PAIRS: [Calls<[AddressAllocator; 2]>; 1] = [|[one, other], _| {
@@ -331,20 +333,24 @@ const OF_PAIRS_OF_MAPS: [Calls<[RangeMap<u64>; 2]>; 2] = [
     |[one, _], _| one.iter().rev().count() as u64 == one.held_count(),
 ];
 
+#[cfg(feature = "serde")]
+type Objects = (AddressAllocator, IdAllocator, DeviceManager, RangeMap<u64>);
+
 /// Writes and reads objects of each kind.
 #[cfg(feature = "serde")]
-const OF_SAVED: [Calls<(AddressAllocator, IdAllocator, DeviceManager)>; 5] = [
-    |(space, _, _), _| is_read_again(space) && is_read_again(&Strict::from(space.clone())),
-    |(_, ids, _), _| is_read_again(ids),
-    |(_, _, devices), _| is_read_again(devices),
-    |(space, _, devices), _| {
+const OF_SAVED: [Calls<Objects>; 6] = [
+    |(space, ..), _| is_read_again(space) && is_read_again(&Strict::from(space.clone())),
+    |(_, ids, ..), _| is_read_again(ids),
+    |(_, _, devices, _), _| is_read_again(devices),
+    |(.., map), _| is_read_again(map),
+    |(space, _, devices, _), _| {
         let views = (space.try_saved().unwrap(), devices.try_saved().unwrap());
         let bytes = [packed::to_bytes(&views.0), packed::to_bytes(&views.1)];
         bytes.map(Result::unwrap)
             == [packed::to_bytes(space), packed::to_bytes(devices)].map(Result::unwrap)
     },
     // The device with the highest id is read first.
-    |(_, _, devices), _| {
+    |(_, _, devices, _), _| {
         let (mut high, last) = (devices.clone(), devices.device_count() as u32 - 1);
         let released = (0..last).all(|id| high.release(id) == Ok(()));
         let bytes = packed::to_bytes(&high).unwrap();
@@ -391,31 +397,33 @@ fn is_counted<I: ExactSizeIterator + Clone>(items: &I) -> bool {
 
 /// Compares the shortest times of each row in two objects, at many items.
 fn expect_quick<O>(make: impl Fn(u64) -> O, rows: &[Calls<O>], distance: u64) {
-    expect_growth((COUNTS, LIMIT), 50, make, rows, distance);
+    expect_growth(LIMIT, ([5; 2], 50), make, rows, distance);
 }
 
-/// Does the same for calls that go through all items.
+/// Does the same for calls that go through all items, once in the second object.
 fn expect_linear<O>(make: impl Fn(u64) -> O, rows: &[Calls<O>]) {
-    expect_growth((LINEAR_COUNTS, LINEAR_LIMIT), 1, make, rows, 2);
+    expect_growth(LINEAR_LIMIT, ([5, 1], 1), make, rows, 2);
 }
 
 fn expect_growth<O>(
-    (counts, limit): ([u64; 2], u64),
-    calls_of_row: u64,
+    limit: u64,
+    (rounds, calls_of_row): ([usize; 2], u64),
     make: impl Fn(u64) -> O,
     rows: &[Calls<O>],
     distance: u64,
 ) {
-    let mut objects = counts.map(make);
+    let mut objects = COUNTS.map(make);
     for (number, calls) in rows.iter().enumerate() {
-        let mut times = [u64::MAX; 2];
-        for place in [0, 1].repeat(ROUNDS) {
-            let begun = processor_time();
-            for at in (0..calls_of_row).map(|at| distance * (at * 7919 % (counts[place] - 4))) {
-                assert!(calls(&mut objects[place], at), "row {number}");
-            }
-            times[place] = times[place].min(processor_time() - begun);
-        }
+        let times = [0, 1].map(|place| {
+            let round = |_| {
+                let begun = processor_time();
+                for at in (0..calls_of_row).map(|at| distance * (at * 7919 % (COUNTS[place] - 4))) {
+                    assert!(calls(&mut objects[place], at), "row {number}");
+                }
+                processor_time() - begun
+            };
+            (0..rounds[place]).map(round).min().unwrap()
+        });
         assert!(times[1] < limit * times[0], "row {number}: {times:?}");
     }
 }
@@ -488,7 +496,7 @@ fn calls_go_through_all_items_once() {
     expect_linear(|count| [count; 2].map(map), &OF_PAIRS_OF_MAPS);
     #[cfg(feature = "serde")]
     expect_linear(
-        |count| (space(count), freed(count), devices(count)),
+        |count| (space(count), freed(count), devices(count), map(count)),
         &OF_SAVED,
     );
 }

@@ -609,6 +609,9 @@ fn errors_name_what_is_wrong() {
     assert_eq!(error.to_string(), text);
 }
 
+// DIFFERENCES.md: "Heights, keys and ids can be invalid, and fields unknown or missing | Fields must
+// be exact, and keys and ids valid. Only strict readers check heights"
+
 /// Returns wrong texts of a value, each with the start of its error. One field of an object is missing, twice
 /// there or unknown, or a node is a list of some fields.
 fn with_wrong_fields(value: &Value) -> Vec<(String, String)> {

@@ -372,11 +372,15 @@ impl Timing {
         }
     }
 
-    fn done(mut self) -> Measured {
-        self.rounds.sort_by(f64::total_cmp);
+    fn done(self) -> Measured {
         Measured {
-            nanoseconds: self.rounds[self.rounds.len() / 2],
+            nanoseconds: median(self.rounds),
             answers: self.answers,
         }
     }
+}
+
+pub fn median(mut times: Vec<f64>) -> f64 {
+    times.sort_by(f64::total_cmp);
+    times[times.len() / 2]
 }

@@ -99,7 +99,7 @@ fn pages<L: Library>(count: u64) -> L::Space {
 /// Prints the costs of divsharun in both formats, and those of `vm-allocator` divided by them.
 pub fn measure() {
     println!("| format, ranges | save | restore | peak of both |\n|---|---|---|---|");
-    for count in [1_000, 100_000] {
+    for count in [1_000, 100_000, 1_000_000] {
         measure_format::<Json>(count);
         measure_format::<Packed>(count);
     }
