@@ -251,23 +251,28 @@ impl<'de> Deserialize<'de> for crate::DeviceManager {
     }
 }
 
-impl<'de, T: Deserialize<'de>> Deserialize<'de> for Vec<T> {
+/// The ranges of a saved map with their values, as they were read.
+struct ReadRanges<T>(ValuedList<RangeInclusive, T>);
+
+impl<'de, T: Deserialize<'de>> Deserialize<'de> for ReadRanges<T> {
     fn deserialize<D: Deserializer<'de>>(from: D) -> Result<Self, D::Error> {
-        let push = |list: &mut Vec<T>, item| list.push(item).map_err(|_| SavedError::OutOfMemory);
-        from.deserialize_seq(List(Vec::new(Global), push))
+        let push = |list: &mut ValuedList<_, T>, ValuedRange { range, value }| {
+            let pushed = list.push(range.0, value);
+            pushed.map_err(|_| SavedError::OutOfMemory)
+        };
+        let list = ValuedList::with_capacity(Global, 0);
+        let list = list.map_err(|_| invalid(SavedError::OutOfMemory))?;
+        from.deserialize_seq(List(list, push)).map(ReadRanges)
     }
 }
 
 impl<'de, T: Deserialize<'de>> Deserialize<'de> for crate::RangeMap<T> {
     fn deserialize<D: Deserializer<'de>>(from: D) -> Result<Self, D::Error> {
-        let saved: Map<Vec<ValuedRange<T>>> = Map::deserialize(from)?;
-        let mut map = crate::RangeMap::try_new(saved.base, saved.size).map_err(D::Error::custom)?;
-        for ValuedRange { range, value } in alloc::vec::Vec::from(saved.ranges) {
-            let exact = crate::AllocPolicy::ExactMatch(range.start());
-            let made = map.try_allocate(range.len(), 1, exact, value);
-            made.map_err(D::Error::custom)?;
-        }
-        Ok(map)
+        let Map { base, size, ranges } = Map::<ReadRanges<T>>::deserialize(from)?;
+        let made = RangeMap::with_held(Global, base, size, ranges.0);
+        let failed = |refused: RefusedList<_, T>| list_error(refused.error, |_| None::<Conflict>);
+        made.map(crate::RangeMap)
+            .map_err(|refused| D::Error::custom(failed(refused) as ListError<TryError>))
     }
 }
 
