@@ -36,7 +36,7 @@ use core::fmt;
 /// assert_eq!(bus.free(&disk), Err(Error::ResourceNotAvailable));
 /// # Ok::<(), Error>(())
 /// ```
-pub struct RangeMap<T>(proved::RangeMap<T>);
+pub struct RangeMap<T>(pub(crate) proved::RangeMap<T>);
 
 impl<T> RangeMap<T> {
     twins! {
@@ -525,7 +525,10 @@ fn with_list<S, R, K, P, T, C: Into<Conflict>, E: From<Error>>(
         let error = list_error(refused.error, |index| conflict(object, &of_proved, index));
         let converted = Vec::from(of_proved).into_iter().map(from);
         items.extend(converted.zip(Vec::from(values)));
-        ValueError { error, value: items }
+        ValueError {
+            error,
+            value: items,
+        }
     })
 }
 

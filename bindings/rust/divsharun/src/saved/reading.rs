@@ -3,11 +3,13 @@
 
 use super::conditions::field_and_text;
 use super::{Map, ValuedRange};
+use crate::convert::list_error;
 use crate::proved::vm_addresses::{AddressAllocator, RangeInclusive, ReadNodes, SavedError, Side};
 use crate::proved::vm_devices::{DeviceManager, DeviceSlot, ReadDevices};
 use crate::proved::vm_ids::{IdAllocator, ReadIds};
-use crate::rattle::{Global, Vec};
-use crate::{NodeState, TryError};
+use crate::proved::vm_range_map::{RangeMap, RefusedList, ValuedList};
+use crate::rattle::Global;
+use crate::{Conflict, ListError, NodeState, TryError};
 use core::{fmt, mem};
 use serde::de::{DeserializeSeed, Error, MapAccess, SeqAccess, Visitor};
 use serde::{Deserialize, Deserializer};
@@ -270,9 +272,11 @@ impl<'de, T: Deserialize<'de>> Deserialize<'de> for crate::RangeMap<T> {
     fn deserialize<D: Deserializer<'de>>(from: D) -> Result<Self, D::Error> {
         let Map { base, size, ranges } = Map::<ReadRanges<T>>::deserialize(from)?;
         let made = RangeMap::with_held(Global, base, size, ranges.0);
-        let failed = |refused: RefusedList<_, T>| list_error(refused.error, |_| None::<Conflict>);
         made.map(crate::RangeMap)
-            .map_err(|refused| D::Error::custom(failed(refused) as ListError<TryError>))
+            .map_err(|RefusedList { error, .. }| {
+                let failure: ListError<TryError> = list_error(error, |_| None::<Conflict>);
+                D::Error::custom(failure)
+            })
     }
 }
 
