@@ -54,10 +54,13 @@ fn answered<T>(
     (!ran_out).then(|| refused(answer))
 }
 
+/// The result of a call with a list of items and values.
+type OfList<R, K, T, E> = Result<R, ValueError<Vec<(K, T)>, ListError<E>>>;
+
 /// Returns the result of a call with a list, of which an error returns the list. `index` and `conflict` are those of
 /// the error, unless memory ran out.
 fn of_list<R, K: PartialEq, T: PartialEq, E: Into<TryError>>(
-    answer: Result<R, ValueError<Vec<(K, T)>, ListError<E>>>,
+    answer: OfList<R, K, T, E>,
     list: &[(K, T)],
     (index, conflict): (Option<usize>, Option<Conflict>),
 ) -> Result<R, TryError> {
