@@ -8,7 +8,7 @@ use super::RangeMap;
 use super::value_table::ValueTable;
 use crate::refused::RefusedList;
 use crate::valued_list::ValuedList;
-use std::alloc::Global;
+use std::alloc::{AllocFailed, Global};
 use std::result::Result;
 use vm_addresses::{AddressAllocator, Constraint, Error, RangeInclusive};
 
@@ -39,7 +39,7 @@ impl<T: Drop> RangeMap<T> {
         };
         let ValuedList { items, values } = held;
         let mut table = ValueTable::new(alloc);
-        if let Err(values) = table.insert_all(alloc, &items, values) {
+        if let Err(AllocFailed { value: values }) = table.insert_all(alloc, &items, values) {
             let error = Error::OutOfMemory.into();
             let list = ValuedList { items, values };
             return Err(RefusedList { error, list });
@@ -62,25 +62,22 @@ impl<T: Drop> RangeMap<T> {
     pub fn allocate_all(
         &mut self,
         alloc: Global,
-        requests: ValuedList<Constraint, T>,
+        list: ValuedList<Constraint, T>,
     ) -> Result<Vec<RangeInclusive>, RefusedList<Constraint, T>>
         ensures allocated { IfOk result (λ ranges.
-            AllocatesEachWith (map_state self.old) requests.0 requests.1 ranges.items (map_state self.new)) }
+            AllocatesEachWith (map_state self.old) list.0 list.1 ranges.items (map_state self.new)) }
         ensures unchanged { OnErr result (map_state self.new ≡ map_state self.old) }
         ensures failed { IfErr result (λ refused.
-            FailsAsListed (map_state self.old).space requests.0 refused.error) }
-        ensures returned { IfErr result (λ refused. refused.list ≡ requests) }
+            FailsAsListed (map_state self.old).space list.0 refused.error) }
+        ensures returned { IfErr result (λ refused. refused.list ≡ list) }
         ensures state { IsMapState (map_state self.new) }
     {
-        let mut ranges = match self.addresses.allocate_all(alloc, &requests.items) {
+        let mut ranges = match self.addresses.allocate_all(alloc, &list.items) {
             Ok(ranges) => ranges,
-            Err(error) => return Err(RefusedList {
-                error,
-                list: requests,
-            }),
+            Err(error) => return Err(RefusedList { error, list }),
         };
-        let ValuedList { items, values } = requests;
-        if let Err(values) = self.values.insert_all(alloc, &ranges, values) {
+        let ValuedList { items, values } = list;
+        if let Err(AllocFailed { value: values }) = self.values.insert_all(alloc, &ranges, values) {
             self.addresses.free_all(&mut ranges);
             let error = Error::OutOfMemory.into();
             let list = ValuedList { items, values };

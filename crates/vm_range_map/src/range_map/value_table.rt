@@ -168,12 +168,12 @@ impl<T: Drop> ValueTable<T> {
         alloc: Global,
         ranges: &[RangeInclusive],
         values: Vec<T>,
-    ) -> Result<(), Vec<T>>
+    ) -> Result<(), AllocFailed<Vec<T>>>
         requires many { length ranges.now ≡ length values.items }
         requires new { AreNewStarts self.old ranges.now }
         ensures inserted { OnOk result (self.new ≡ with_values self.old ranges.now values.items) }
         ensures err { OnErr result (self.new ≡ self.old) }
-        ensures returned { IfErr result (λ returned. returned.items ≡ values.items) }
+        ensures returned { IfErr result (λ failed. failed.value.items ≡ values.items) }
     {
         let mut left = values;
         while let Some(value) = left.pop() {
@@ -184,7 +184,7 @@ impl<T: Drop> ValueTable<T> {
                     unreachable!()
                 };
                 self.remove_all(&ranges[at + 1..], &mut left);
-                return Err(left);
+                return Err(AllocFailed { value: left });
             }
         }
         Ok(())

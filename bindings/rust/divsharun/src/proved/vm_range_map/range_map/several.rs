@@ -7,8 +7,8 @@ use super::RangeMap;
 use crate::proved::vm_addresses::{AddressAllocator, Constraint, Error, RangeInclusive};
 use crate::proved::vm_range_map::refused::RefusedList;
 use crate::proved::vm_range_map::valued_list::ValuedList;
-use crate::rattle::Global;
 use crate::rattle::Vec;
+use crate::rattle::{AllocFailed, Global};
 use core::result::Result;
 
 impl<T> RangeMap<T> {
@@ -33,7 +33,7 @@ impl<T> RangeMap<T> {
         };
         let ValuedList { items, values } = held;
         let mut table = ValueTable::new(alloc);
-        if let Err(values) = table.insert_all(alloc, &items, values) {
+        if let Err(AllocFailed { value: values }) = table.insert_all(alloc, &items, values) {
             let error = Error::OutOfMemory.into();
             let list = ValuedList { items, values };
             return Err(RefusedList { error, list });
@@ -56,19 +56,14 @@ impl<T> RangeMap<T> {
     pub fn allocate_all(
         &mut self,
         alloc: Global,
-        requests: ValuedList<Constraint, T>,
+        list: ValuedList<Constraint, T>,
     ) -> Result<Vec<RangeInclusive>, RefusedList<Constraint, T>> {
-        let mut ranges = match self.addresses.allocate_all(alloc, &requests.items) {
+        let mut ranges = match self.addresses.allocate_all(alloc, &list.items) {
             Ok(ranges) => ranges,
-            Err(error) => {
-                return Err(RefusedList {
-                    error,
-                    list: requests,
-                })
-            }
+            Err(error) => return Err(RefusedList { error, list }),
         };
-        let ValuedList { items, values } = requests;
-        if let Err(values) = self.values.insert_all(alloc, &ranges, values) {
+        let ValuedList { items, values } = list;
+        if let Err(AllocFailed { value: values }) = self.values.insert_all(alloc, &ranges, values) {
             self.addresses.free_all(&mut ranges);
             let error = Error::OutOfMemory.into();
             let list = ValuedList { items, values };

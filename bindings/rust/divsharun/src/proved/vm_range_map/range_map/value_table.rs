@@ -107,7 +107,7 @@ impl<T> ValueTable<T> {
         alloc: Global,
         ranges: &[RangeInclusive],
         values: Vec<T>,
-    ) -> Result<(), Vec<T>> {
+    ) -> Result<(), AllocFailed<Vec<T>>> {
         let mut left = values;
         while let Some(value) = left.pop() {
             let at = left.len();
@@ -117,7 +117,7 @@ impl<T> ValueTable<T> {
                     unreachable!()
                 };
                 self.remove_all(&ranges[at + 1..], &mut left);
-                return Err(left);
+                return Err(AllocFailed { value: left });
             }
         }
         Ok(())
