@@ -1195,6 +1195,16 @@ dvs_status dvs_device_manager_read_within(const char *text, size_t length,
 dvs_status dvs_range_map_new(uint64_t base, uint64_t size, dvs_range_map **map) DVS_WARN_UNUSED;
 
 /*
+ * Creates a map like dvs_range_map_new(), in which the `count` ranges of `held` are allocated
+ * with their values. They must be in ascending order. `held` can be null if `count` is 0.
+ *
+ * Errors: those of dvs_address_allocator_with_held(), in the same order.
+ */
+dvs_status dvs_range_map_with_held(uint64_t base, uint64_t size, const dvs_valued_range *held,
+                                   size_t count, dvs_range_map **map, size_t *failed,
+                                   dvs_refusal *refusal) DVS_WARN_UNUSED;
+
+/*
  * Destroys a map, with all its allocated ranges, like dvs_address_allocator_destroy(). If
  * values are pointers, visit the map first to free what they point to:
  *
@@ -1223,6 +1233,15 @@ dvs_status dvs_range_map_allocate(dvs_range_map *map, uint64_t value, const dvs_
                                   dvs_range *range, dvs_refusal *refusal) DVS_WARN_UNUSED;
 
 /*
+ * Allocates a range for each of the `count` requests, or none, like
+ * dvs_address_allocator_allocate_all(), with the same errors. The range of a request keeps
+ * the value with the same index in the array `values`.
+ */
+dvs_status dvs_range_map_allocate_all(dvs_range_map *map, const dvs_request *requests,
+                                      const uint64_t *values, size_t count, dvs_range *ranges,
+                                      size_t *failed, dvs_refusal *refusal) DVS_WARN_UNUSED;
+
+/*
  * Frees an allocated range, and writes its value to `value`. It does not allocate memory.
  *
  * Errors, in order:
@@ -1239,6 +1258,24 @@ dvs_status dvs_range_map_free(dvs_range_map *map, dvs_range range, uint64_t *val
  */
 dvs_status dvs_range_map_move(dvs_range_map *map, dvs_range range, const dvs_request *request,
                               dvs_range *moved, dvs_refusal *refusal) DVS_WARN_UNUSED;
+
+/* Writes to `conflict` why the range of a DVS_EXACT request is not free, like
+ * dvs_range_conflict(). */
+dvs_status dvs_range_map_conflict(const dvs_range_map *map, const dvs_request *request,
+                                  dvs_refusal *conflict) DVS_WARN_UNUSED;
+
+/*
+ * Writes to `conflict` why the range of a DVS_EXACT request is not free if `range` is free, like
+ * dvs_range_conflict(). So `range` is never in the way. If exactly `range` is not allocated, the
+ * cause is DVS_CAUSE_NONE.
+ *
+ * Errors, in order:
+ * - Those of dvs_range_conflict().
+ * - DVS_INVALID_RANGE if `range` is not a valid range.
+ */
+dvs_status dvs_range_map_move_conflict(const dvs_range_map *map, dvs_range range,
+                                       const dvs_request *request,
+                                       dvs_refusal *conflict) DVS_WARN_UNUSED;
 
 /*
  * Writes the allocated range that contains the address, and its value, to `found`.
@@ -1267,6 +1304,10 @@ dvs_status dvs_range_map_count(const dvs_range_map *map, uint64_t *count) DVS_WA
 dvs_status dvs_range_map_list(const dvs_range_map *map, uint64_t from, dvs_valued_range *ranges,
                               size_t capacity, size_t *count) DVS_WARN_UNUSED;
 
+/* Writes the gaps that have an address at or above `from`, like dvs_gap_list(). */
+dvs_status dvs_range_map_gap_list(const dvs_range_map *map, uint64_t from, dvs_range *gaps,
+                                  size_t capacity, size_t *count) DVS_WARN_UNUSED;
+
 /* The function that dvs_range_map_visit() calls for each range. It has the rules of
  * dvs_range_visitor. */
 typedef int dvs_valued_range_visitor(void *context, dvs_valued_range found);
@@ -1274,6 +1315,24 @@ typedef int dvs_valued_range_visitor(void *context, dvs_valued_range found);
 /* Visits the allocated ranges with their values in ascending order, like dvs_range_visit(). */
 dvs_status dvs_range_map_visit(const dvs_range_map *map, dvs_valued_range_visitor *visitor,
                                void *context);
+
+/*
+ * Visits the allocated ranges that have an address in common with `within`, with their values,
+ * like dvs_range_visit_in(). It looks up each value.
+ *
+ * Errors: DVS_INVALID_RANGE if `within` is not a valid range.
+ */
+dvs_status dvs_range_map_visit_in(const dvs_range_map *map, dvs_range within,
+                                  dvs_valued_range_visitor *visitor, void *context,
+                                  dvs_refusal *refusal);
+
+/* Visits the allocated ranges from an address upwards, like dvs_range_visit_from(). */
+dvs_status dvs_range_map_visit_from(const dvs_range_map *map, uint64_t address,
+                                    dvs_valued_range_visitor *visitor, void *context);
+
+/* Visits the allocated ranges back from an address, like dvs_range_visit_back(). */
+dvs_status dvs_range_map_visit_back(const dvs_range_map *map, uint64_t address,
+                                    dvs_valued_range_visitor *visitor, void *context);
 
 /* Creates a copy of the map, like dvs_address_allocator_copy(). */
 dvs_status dvs_range_map_copy(const dvs_range_map *map, dvs_range_map **copied) DVS_WARN_UNUSED;

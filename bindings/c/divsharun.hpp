@@ -243,6 +243,15 @@ class owner {
             items = std::move(found);
         return failed;
     }
+
+    /* The same for a visit of the items in a range. */
+    template <typename Call>
+    error list_in(Call call, dvs_range within, std::vector<Item> &items,
+                  dvs_refusal *refusal) const {
+        return list_by([=](const T *from, int (*visitor)(void *, Item),
+                           void *context) { return call(from, within, visitor, context, refusal); },
+                       items);
+    }
 };
 
 /*
@@ -478,15 +487,6 @@ class address_allocator : public space_owner {
     template <typename Action> error for_each_gap_back(uint64_t address, Action action) const {
         return visit_by(dvs_gap_visit_back, std::move(action), address);
     }
-
-  private:
-    template <typename Call>
-    error list_in(Call call, dvs_range within, std::vector<dvs_range> &ranges,
-                  dvs_refusal *refusal) const {
-        return list_by([=](const handle *from, dvs_range_visitor *visitor,
-                           void *context) { return call(from, within, visitor, context, refusal); },
-                       ranges);
-    }
 };
 
 class id_allocator : public owner<dvs_id_allocator, dvs_id_allocator_destroy, dvs_id_allocator_copy,
@@ -600,6 +600,30 @@ class range_map
     error make(uint64_t base, uint64_t size) noexcept {
         return create([=](handle **out) { return dvs_range_map_new(base, size, out); });
     }
+    error make_with_held(uint64_t base, uint64_t size, const std::vector<dvs_valued_range> &held,
+                         std::size_t *failed = nullptr, dvs_refusal *refusal = nullptr) noexcept {
+        return create([&](handle **out) {
+            return dvs_range_map_with_held(base, size, held.data(), held.size(), out, failed,
+                                           refusal);
+        });
+    }
+    /* The items are requests with their values. */
+    error allocate_all(const std::vector<std::pair<request, uint64_t>> &items,
+                       std::vector<dvs_range> &ranges, std::size_t *failed = nullptr,
+                       dvs_refusal *refusal = nullptr) {
+        std::vector<dvs_request> all;
+        std::vector<uint64_t> values;
+        std::vector<dvs_range> allocated(items.size());
+        for (const auto &one : items) {
+            all.push_back(one.first.get());
+            values.push_back(one.second);
+        }
+        error failure = dvs_range_map_allocate_all(get(), all.data(), values.data(), all.size(),
+                                                   allocated.data(), failed, refusal);
+        if (!failure)
+            ranges = std::move(allocated);
+        return failure;
+    }
     error allocate(uint64_t value, const request &asked, dvs_range &range,
                    dvs_refusal *refusal = nullptr) noexcept {
         return dvs_range_map_allocate(get(), value, &asked.get(), &range, refusal);
@@ -610,6 +634,12 @@ class range_map
     error move(dvs_range range, const request &asked, dvs_range &moved,
                dvs_refusal *refusal = nullptr) noexcept {
         return dvs_range_map_move(get(), range, &asked.get(), &moved, refusal);
+    }
+    error conflict(const request &asked, dvs_refusal &found) const noexcept {
+        return dvs_range_map_conflict(get(), &asked.get(), &found);
+    }
+    error move_conflict(dvs_range range, const request &asked, dvs_refusal &found) const noexcept {
+        return dvs_range_map_move_conflict(get(), range, &asked.get(), &found);
     }
     error at(uint64_t address, dvs_valued_range &found) const noexcept {
         return dvs_range_map_get(get(), address, &found);
@@ -623,8 +653,23 @@ class range_map
                       std::size_t &count) const noexcept {
         return dvs_range_map_list(get(), from, ranges, capacity, &count);
     }
+    error list_gaps(uint64_t from, dvs_range *gaps, std::size_t capacity,
+                    std::size_t &count) const noexcept {
+        return dvs_range_map_gap_list(get(), from, gaps, capacity, &count);
+    }
     error ranges(std::vector<dvs_valued_range> &ranges) const {
         return list_by(dvs_range_map_visit, ranges);
+    }
+    error ranges_in(dvs_range within, std::vector<dvs_valued_range> &ranges,
+                    dvs_refusal *refusal = nullptr) const {
+        return list_in(dvs_range_map_visit_in, within, ranges, refusal);
+    }
+    /* The ranges from an address upwards, or back from it downwards. */
+    template <typename Action> error for_each_from(uint64_t address, Action action) const {
+        return visit_by(dvs_range_map_visit_from, std::move(action), address);
+    }
+    template <typename Action> error for_each_back(uint64_t address, Action action) const {
+        return visit_by(dvs_range_map_visit_back, std::move(action), address);
     }
 };
 

@@ -6,6 +6,7 @@ use crate::objects::calls;
 use crate::proved::vm_addresses::{
     AddressAllocator, AllocPolicy, Constraint, ListConflict, ListError, RangeInclusive,
 };
+use crate::proved::vm_range_map::ValuedList;
 use crate::ranges::dvs_address_allocator;
 use crate::rattle::{self, Global};
 use crate::requests::{because_of, dvs_request, in_the_way, no_range, refused};
@@ -75,7 +76,7 @@ pub(crate) unsafe fn fill<T>(
 /// # Safety
 ///
 /// The pointer is null or points to `count` readable members.
-unsafe fn converted<T, P>(
+pub(crate) unsafe fn converted<T, P>(
     first: *const T,
     count: usize,
     convert: impl Fn(&T) -> Result<P, CallError>,
@@ -99,13 +100,57 @@ pub(crate) fn write_failed(answer: &Result<(), CallError>, length: usize, failed
     }
 }
 
+/// Returns a list of items, each with its value.
+pub(crate) fn valued<P: Copy>(
+    items: &[P],
+    values: impl Iterator<Item = u64>,
+) -> Result<ValuedList<P, u64>, CallError> {
+    let mut list = ValuedList::with_capacity(Global, items.len())?;
+    for (item, value) in items.iter().zip(values) {
+        list.push(*item, value).map_err(|_| DVS_OUT_OF_MEMORY)?;
+    }
+    Ok(list)
+}
+
 /// Returns the range of a caller, or `InvalidRange` if it is not a valid range.
-fn checked(range: &dvs_range) -> Result<RangeInclusive, CallError> {
+pub(crate) fn checked(range: &dvs_range) -> Result<RangeInclusive, CallError> {
     Ok((*range).try_into()?)
 }
 
+/// Returns the error of a list of requests, whose ranges were freed again.
+pub(crate) fn refused_all(
+    ListError { index, error }: ListError,
+    wants_details: bool,
+    requests: &[Constraint],
+    space: &AddressAllocator,
+) -> CallError {
+    let details = || {
+        let index = index?;
+        let request = *requests.get(index)?;
+        // The gaps are those of the first request.
+        match index {
+            0 => no_range(request, space),
+            _ => in_the_way(request, space.conflict(request)).or_else(|| earlier(request)),
+        }
+    };
+    let failure = refused(error, wants_details, details);
+    CallError { index, ..failure }
+}
+
+/// Writes ranges to the array of a caller.
+///
+/// # Safety
+///
+/// The array has a writable member for each range.
+pub(crate) unsafe fn write_all(allocated: &[RangeInclusive], ranges: *mut dvs_range) {
+    for (index, range) in allocated.iter().enumerate() {
+        // SAFETY: the caller's contract.
+        unsafe { ranges.add(index).write((*range).into()) };
+    }
+}
+
 /// Returns the error of a list of ranges. If a range fails, its details have the reason in this space.
-fn refused_list(
+pub(crate) fn refused_list(
     ListError { index, error }: ListError,
     space: Option<RangeInclusive>,
     ranges: &[RangeInclusive],
@@ -174,22 +219,9 @@ calls! {
         // SAFETY: the array has `count` readable requests.
         let requests = unsafe { converted(requests, count, dvs_request::constraint) }?;
         let allocated = object.allocate_all(Global, &requests);
-        let allocated = allocated.map_err(|ListError { index, error }| {
-            let details = || {
-                let index = index?;
-                let request = *requests.get(index)?;
-                // The gaps are those of the first request.
-                match index {
-                    0 => no_range(request, object),
-                    _ => in_the_way(request, object.conflict(request)).or_else(|| earlier(request)),
-                }
-            };
-            let failure = refused(error, refusal.is_some(), details);
-            CallError { index, ..failure }
-        })?;
-        for (index, range) in allocated.iter().enumerate() {
-            // SAFETY: the array has a writable range for each request.
-            unsafe { ranges.add(index).write((*range).into()) };
-        }
+        let allocated = allocated
+            .map_err(|failure| refused_all(failure, refusal.is_some(), &requests, object))?;
+        // SAFETY: the array has a writable range for each request.
+        unsafe { write_all(&allocated, ranges) };
     }
 }

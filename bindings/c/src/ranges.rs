@@ -44,7 +44,7 @@ pub(crate) fn at_or_above(space: &AddressAllocator, address: u64) -> Answer<Rang
 }
 
 /// Returns the part of the space that ends at `address`, like [`at_or_above`].
-fn at_or_below(space: &AddressAllocator, address: u64) -> Answer<RangeInclusive> {
+pub(crate) fn at_or_below(space: &AddressAllocator, address: u64) -> Answer<RangeInclusive> {
     RangeInclusive::new(space.base().min(address), space.end().min(address))
 }
 

@@ -96,6 +96,7 @@ static const struct step on_none[] = {
     {WITH_IDS, {3, 12}, TELLS_ID(DVS_RESOURCE_NOT_AVAILABLE, 3)},
     {WITH_RANGES, {0, 0}, TELLS(DVS_INVALID_RANGE, 2, 1)},
     {WITH_FREE, {0}, TELLS(DVS_INVALID_RANGE, 2, 1)},
+    {WITH_VALUES, {0}, TELLS(DVS_INVALID_RANGE, 2, 1)},
     {DESTROY_SPACE, {0}, SUCCEEDS},
     {DESTROY_IDS, {0}, SUCCEEDS},
     {DESTROY_MANAGER, {0}, SUCCEEDS},
@@ -547,17 +548,23 @@ static void use_objects(void) {
 
 /* Gives null for the object, for each result, and for the other pointers. */
 static void give_null(void) {
-    static const int with_pointers[] = {WITH_RANGES,     WITH_FREE,      WITH_IDS,
-                                        READ_SPACE,      REPAIR_SPACE,   READ_IDS,
-                                        READ_MANAGER,    SPACE_WITHIN,   REPAIR_WITHIN,
-                                        IDS_WITHIN,      MANAGER_WITHIN, MOVE_REQUEST,
-                                        REQUEST,         LIST,           PEEK_RANGE,
-                                        CONFLICT,        RESERVE,        RESERVE_WITH_ID,
-                                        DEVICE_CONFLICT, EQUAL_SPACE,    EQUAL_IDS,
-                                        EQUAL_MANAGERS,  EQUAL_MAPS,     MAP_ALLOCATE,
-                                        MAP_MOVE};
-    static const struct arguments none = {true, true, NULL,   NULL, NULL, NULL,
-                                          NULL, 5,    {4, 1}, NULL, false};
+    static const int with_pointers[] = {WITH_RANGES,      WITH_FREE,
+                                        WITH_IDS,         READ_SPACE,
+                                        REPAIR_SPACE,     READ_IDS,
+                                        READ_MANAGER,     SPACE_WITHIN,
+                                        REPAIR_WITHIN,    IDS_WITHIN,
+                                        MANAGER_WITHIN,   MOVE_REQUEST,
+                                        REQUEST,          LIST,
+                                        PEEK_RANGE,       CONFLICT,
+                                        RESERVE,          RESERVE_WITH_ID,
+                                        DEVICE_CONFLICT,  EQUAL_SPACE,
+                                        EQUAL_IDS,        EQUAL_MANAGERS,
+                                        EQUAL_MAPS,       MAP_ALLOCATE,
+                                        MAP_MOVE,         WITH_VALUES,
+                                        MAP_ALL,          MAP_CONFLICT,
+                                        MAP_MOVE_CONFLICT};
+    static const struct arguments none = {true, true, NULL, NULL,   NULL, NULL, NULL,
+                                          NULL, NULL, 5,    {4, 1}, NULL, false};
     size_t i;
     int call;
 
@@ -588,8 +595,16 @@ static void give_null(void) {
                                              &results.device.range, NULL, NULL) == DVS_NULL);
     CHECK(dvs_address_allocator_allocate_all((dvs_address_allocator *)objects[0], worst, SIZE_MAX,
                                              NULL, NULL, NULL) == DVS_NULL);
+    CHECK(dvs_range_map_with_held(0, 0, NULL, 0, NULL, NULL, NULL) == DVS_NULL);
     for (i = 1; i <= 2; i++) {
+        dvs_range_map *map = (dvs_range_map *)objects[3];
         void *made = NULL;
+
+        CHECK(dvs_range_map_allocate_all(map, worst, NULL, i, results.ranges, NULL, NULL) ==
+              DVS_NULL);
+        CHECK(dvs_range_map_allocate_all(map, worst, two_values, i, NULL, NULL, NULL) == DVS_NULL);
+        CHECK(dvs_range_map_with_held(0, 9, NULL, i, (dvs_range_map **)&made, NULL, NULL) ==
+              DVS_NULL);
 
         CHECK(dvs_ids_allocate((dvs_id_allocator *)objects[1], NULL, i) == DVS_NULL);
         CHECK(dvs_address_allocator_allocate_all((dvs_address_allocator *)objects[0], NULL, i,
@@ -609,6 +624,8 @@ static void give_null(void) {
     CHECK(dvs_gap_list((dvs_address_allocator *)objects[0], 0, NULL, 1, &results.length) ==
           DVS_NULL);
     CHECK(dvs_range_map_list((dvs_range_map *)objects[3], 0, NULL, 1, &results.length) == DVS_NULL);
+    CHECK(dvs_range_map_gap_list((dvs_range_map *)objects[3], 0, NULL, 1, &results.length) ==
+          DVS_NULL);
     dvs_text_destroy(NULL);
     use_objects();
 }
@@ -618,7 +635,8 @@ static int visited, visits;
 
 /* Returns the status of a query with zeros and an invalid request. */
 static dvs_status status_of_query(int call) {
-    if (call == CONFLICT || call == DEVICE_CONFLICT || call == PEEK_RANGE)
+    if (call == CONFLICT || call == DEVICE_CONFLICT || call == PEEK_RANGE || call == MAP_CONFLICT ||
+        call == MAP_MOVE_CONFLICT)
         return DVS_INVALID_POLICY;
     return call == GAP_AT ? DVS_RESOURCE_NOT_AVAILABLE : DVS_OK;
 }

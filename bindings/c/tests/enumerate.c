@@ -843,6 +843,86 @@ static void keep_values(void) {
     CHECK(dvs_range_map_new(16, 0, &map) == DVS_UNDERFLOW);
 }
 
+/* Returns a map of the addresses 16 to 39 with two ranges. */
+static dvs_range_map *two_valued(void) {
+    static const dvs_valued_range held[] = {{{16, 19}, 7}, {{24, 31}, UINT64_MAX}};
+    dvs_range_map *map;
+    size_t failed;
+
+    CHECK(dvs_range_map_with_held(16, 24, held, 2, &map, &failed, NULL) == DVS_OK && failed == 2);
+    return map;
+}
+
+static void make_map_with_held(void) {
+    static const dvs_valued_range wrong[] = {{{16, 19}, 7}, {{19, 20}, 8}};
+    dvs_range_map *map = two_valued();
+    dvs_valued_range found;
+    dvs_refusal refusal;
+    size_t failed;
+
+    CHECK(dvs_range_map_get(map, 31, &found) == DVS_OK && found.value == UINT64_MAX);
+    dvs_range_map_destroy(map);
+    CHECK(dvs_range_map_with_held(16, 24, NULL, 0, &map, NULL, NULL) == DVS_OK);
+    dvs_range_map_destroy(map);
+    CHECK(dvs_range_map_with_held(16, 24, wrong, 2, &map, &failed, &refusal) ==
+          DVS_RESOURCE_NOT_AVAILABLE);
+    CHECK(failed == 1 && refusal.cause == DVS_CAUSE_NOT_AFTER && is_range(refusal.other, 16, 19));
+}
+
+/* divsharun.h: "If exactly `range` is not allocated, the cause is DVS_CAUSE_NONE." */
+static void query_map(void) {
+    static const dvs_request over = {8, 1, 18, DVS_EXACT, 0, 0};
+    dvs_range_map *map = two_valued();
+    struct seen in = all_of(), from = all_of(), back = all_of();
+    dvs_range gaps[MOST];
+    dvs_refusal refusal;
+    size_t count;
+
+    CHECK(dvs_range_map_conflict(map, &over, &refusal) == DVS_OK);
+    CHECK(refusal.cause == DVS_CAUSE_ALLOCATED && is_range(refusal.other, 16, 19));
+    CHECK(dvs_range_map_move_conflict(map, range_of(16, 19), &over, &refusal) == DVS_OK);
+    CHECK(refusal.cause == DVS_CAUSE_ALLOCATED && is_range(refusal.other, 24, 31));
+    CHECK(dvs_range_map_move_conflict(map, range_of(16, 18), &over, &refusal) == DVS_OK);
+    CHECK(refusal.cause == DVS_CAUSE_NONE);
+    CHECK(dvs_range_map_move_conflict(map, range_of(2, 1), &over, &refusal) == DVS_INVALID_RANGE);
+    CHECK(dvs_range_map_gap_list(map, 22, gaps, MOST, &count) == DVS_OK && count == 2);
+    CHECK(is_range(gaps[0], 20, 23) && is_range(gaps[1], 32, 39));
+    CHECK(dvs_range_map_visit_in(map, range_of(19, 23), see_valued, &in, NULL) == DVS_OK);
+    CHECK(in.count == 1 && in.ids[0] == 7 && is_range(in.ranges[0], 16, 19));
+    CHECK(dvs_range_map_visit_in(map, range_of(3, 2), see_valued, &in, NULL) == DVS_INVALID_RANGE);
+    CHECK(dvs_range_map_visit_from(map, 20, see_valued, &from) == DVS_OK);
+    CHECK(from.count == 1 && is_range(from.ranges[0], 24, 31));
+    CHECK(dvs_range_map_visit_back(map, 24, see_valued, &back) == DVS_OK && back.count == 2);
+    CHECK(is_range(back.ranges[0], 24, 31) && is_range(back.ranges[1], 16, 19));
+    dvs_range_map_destroy(map);
+}
+
+/* divsharun.h: "The range of a request keeps the value with the same index in the array `values`."
+ */
+static void allocate_all_in_map(void) {
+    static const dvs_request pair[] = {{4, 4, 0, DVS_FIRST, 0, 0}, {4, 4, 32, DVS_EXACT, 0, 0}};
+    static const dvs_request too_many[] = {{4, 4, 0, DVS_LAST, 0, 0}, {2, 1, 0, DVS_FIRST, 0, 0}};
+    static const uint64_t values[] = {40, 41};
+    dvs_range_map *map = two_valued();
+    dvs_range ranges[2];
+    dvs_valued_range found;
+    dvs_refusal refusal;
+    size_t failed;
+
+    CHECK(dvs_range_map_allocate_all(map, pair, values, 2, ranges, &failed, &refusal) == DVS_OK);
+    CHECK(failed == 2 && is_range(ranges[0], 20, 23) && is_range(ranges[1], 32, 35));
+    CHECK(dvs_range_map_get(map, 33, &found) == DVS_OK && found.value == 41);
+    CHECK(dvs_range_map_allocate_all(map, pair, values, 2, ranges, &failed, &refusal) ==
+          DVS_INVALID_STATE_TRANSITION);
+    CHECK(failed == 1 && refusal.cause == DVS_CAUSE_ALLOCATED && is_range(refusal.other, 32, 35));
+    CHECK(dvs_range_map_allocate_all(map, too_many, values, 2, ranges, &failed, &refusal) ==
+          DVS_RESOURCE_NOT_AVAILABLE);
+    CHECK(failed == 1 && dvs_range_map_count(map, &found.value) == DVS_OK && found.value == 4);
+    CHECK(dvs_range_map_allocate_all(map, NULL, NULL, 0, NULL, &failed, NULL) == DVS_OK);
+    CHECK(failed == 0);
+    dvs_range_map_destroy(map);
+}
+
 int main(void) {
     make_with_ranges();
     refuse_ranges();
@@ -863,6 +943,9 @@ int main(void) {
     allocate_several_ids();
     look_up_devices();
     keep_values();
+    make_map_with_held();
+    query_map();
+    allocate_all_in_map();
     CHECK(dvs_version_number() == DVS_VERSION_NUMBER);
     puts("enumerate: every list, look-up and array checked");
     return 0;

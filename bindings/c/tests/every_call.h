@@ -20,6 +20,7 @@ enum { MANY = 300 };
     CALL(NEW_MAP, dvs_range_map_new(n[0], n[1], TO(results.map))) \
     CALL(WITH_RANGES, dvs_address_allocator_with_held(n[0], n[1], given.held_ranges, 2, to_space, &failed, REFUSAL)) \
     CALL(WITH_FREE, dvs_address_allocator_with_free(given.held_ranges, 2, to_space, &failed, REFUSAL)) \
+    CALL(WITH_VALUES, dvs_range_map_with_held(n[0], n[1], given.held_values, 2, TO(results.map), &failed, REFUSAL)) \
     CALL(WITH_IDS, dvs_id_allocator_with_held(first, last, given.held, 2, to_ids, REFUSAL)) \
     CALL(READ_SPACE, dvs_address_allocator_read(text, length, to_space)) \
     CALL(REPAIR_SPACE, dvs_address_allocator_read_repaired(text, length, to_space)) \
@@ -102,16 +103,23 @@ enum { MANY = 300 };
     \
     CALL(MAP_ALLOCATE, dvs_range_map_allocate(map, n[0], given.request, to, REFUSAL)) \
     CALL(MAP_MOVE, dvs_range_map_move(map, range, given.request, to, REFUSAL)) \
+    CALL(MAP_ALL, dvs_range_map_allocate_all(map, given.request, given.values, 2, to_all, &failed, REFUSAL)) \
     CALL(MAP_FREE, dvs_range_map_free(map, range, to_number, REFUSAL)) \
     CALL(MAP_SET, dvs_range_map_set(map, n[0], n[1], to_number)) \
     CALL(DESTROY_MAP, dvs_range_map_destroy(map)) \
     CALL(MAP_GET, dvs_range_map_get(seen_map, n[0], TO(results.found))) \
     CALL(LIST_MAP, dvs_range_map_list(seen_map, n[0], &results.found, 1, TO(results.length))) \
+    CALL(MAP_GAPS, dvs_range_map_gap_list(seen_map, n[0], results.ranges, 1, TO(results.length))) \
+    CALL(MAP_CONFLICT, dvs_range_map_conflict(seen_map, given.request, to_conflict)) \
+    CALL(MAP_MOVE_CONFLICT, dvs_range_map_move_conflict(seen_map, range, given.request, to_conflict)) \
     CALL(MAP_COUNT, dvs_range_map_count(seen_map, to_number)) \
     CALL(MAP_SPACE, dvs_range_map_space(seen_map, to)) \
     CALL(EQUAL_MAPS, dvs_range_map_equal(seen_map, other_map, to_flag)) \
     CALL(COPY_MAP, dvs_range_map_copy(seen_map, TO(results.map))) \
-    CALL(VISIT_MAP, dvs_range_map_visit(seen_map, TO(*see_valued), given.context))
+    CALL(VISIT_MAP, dvs_range_map_visit(seen_map, TO(*see_valued), given.context)) \
+    CALL(MAP_VISIT_IN, dvs_range_map_visit_in(seen_map, range, TO(*see_valued), given.context, REFUSAL)) \
+    CALL(MAP_VISIT_FROM, dvs_range_map_visit_from(seen_map, n[0], TO(*see_valued), given.context)) \
+    CALL(MAP_VISIT_BACK, dvs_range_map_visit_back(seen_map, n[1], TO(*see_valued), given.context))
 /* clang-format on */
 
 #define NAME(name, call) name,
@@ -140,6 +148,8 @@ static inline bool copies_part(int call) {
 static const dvs_range backwards[] = {{2, 1}, {2, 1}};
 static const dvs_request worst[] = {{0, 0, 1, DVS_EXACT + 1, 2, 1}, {0, 0, 1, DVS_EXACT + 1, 2, 1}};
 static const uint32_t falling_ids[] = {9, 3};
+static const dvs_valued_range backwards_with_values[] = {{{2, 1}, 7}, {{2, 1}, 8}};
+static const uint64_t two_values[] = {7, 8};
 
 /* The arguments that are not numbers. */
 struct arguments {
@@ -148,6 +158,8 @@ struct arguments {
     const dvs_request *request;
     const dvs_range *held_ranges;
     const uint32_t *held;
+    const dvs_valued_range *held_values;
+    const uint64_t *values;
     /* An object to compare with. */
     void *other;
     const char *text;
@@ -160,8 +172,9 @@ struct arguments {
     bool has_no_refusal;
 };
 
-static const struct arguments usual = {true, true, worst,  backwards, falling_ids, NULL,
-                                       "",   0,    {0, 0}, NULL,      false};
+static const struct arguments usual = {
+    true, true, worst,  backwards, falling_ids, backwards_with_values, two_values, NULL,
+    "",   0,    {0, 0}, NULL,      false};
 static struct arguments given;
 
 /* What every visitor does. */
@@ -252,8 +265,10 @@ static inline void check_refused(int call, dvs_status status, dvs_status expecte
 
     if (status != expected)
         fprintf(stderr, "call %d: status %d\n", call, (int)status);
-    CHECK(failed == (call == LIST || call == WITH_RANGES || call == WITH_FREE ? 2 : MANY) ||
-          (failed < 2 && call == LIST && expected == DVS_OUT_OF_MEMORY));
+    const bool has_requests = call == LIST || call == MAP_ALL;
+    const bool has_ranges = call == WITH_RANGES || call == WITH_FREE || call == WITH_VALUES;
+    CHECK(failed == (has_requests || has_ranges ? 2 : MANY) ||
+          (failed < 2 && has_requests && expected == DVS_OUT_OF_MEMORY));
     CHECK(status == expected && is_untouched(&results, sizeof results));
     CHECK(has_refusal ? memcmp(&refusal, &none, sizeof none) == 0
                       : is_untouched(&refusal, sizeof refusal));

@@ -148,6 +148,8 @@ static const struct row rows[] = {
     {"allocate in a map", MAP_ALLOCATE, 3, {0}, 1},
     {"move in a map", MAP_MOVE, 3, {9, 9}, 1},
     {"copy a map", COPY_MAP, 3, {0}, 7},
+    {"with values", WITH_VALUES, 3, {0, 16}, 8},
+    {"several requests in a map", MAP_ALL, 3, {0}, 6},
 };
 
 /* Sets the arguments that are not numbers. */
@@ -156,8 +158,10 @@ static void give(int group) {
     static const dvs_request requests[] = {{3, 1, 0, DVS_LAST, 490, 510},
                                            {3, 1, 500, DVS_EXACT, 0, 0}};
     static const uint32_t held_ids[] = {4, 9};
+    static const dvs_valued_range with_values[] = {{{4, 7}, 1}, {{9, 9}, 2}};
 
     given = usual;
+    given.held_values = with_values;
     given.request = requests;
     given.held_ranges = held;
     given.held = held_ids;

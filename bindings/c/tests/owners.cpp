@@ -324,6 +324,36 @@ static void keep_values() {
     CHECK(map.move(range, request::first(8, 8), range) && is_range(range, 8, 15));
 }
 
+static void keep_several_values() {
+    using dvs::request;
+    dvs::range_map map;
+    dvs_range gap;
+    dvs_refusal refusal;
+    std::vector<dvs_range> ranges;
+    std::vector<dvs_valued_range> all;
+    std::vector<uint64_t> values;
+    std::size_t failed, count = 0;
+
+    CHECK(map.make_with_held(0, 16, {{{1, 2}, 7}, {{2, 3}, 8}}, &failed, &refusal) && failed == 1);
+    CHECK(refusal.cause == DVS_CAUSE_NOT_AFTER && is_range(refusal.range, 2, 3) && !map);
+    CHECK(!map.make_with_held(0, 16, {{{1, 2}, 7}, {{4, 7}, 8}}) && !map.ranges(all));
+    CHECK(all.size() == 2 && all[1].value == 8 && is_range(all[1].range, 4, 7));
+    CHECK(!map.allocate_all({{request::first(1, 1), 9}, {request::last(2, 1), 10}}, ranges));
+    CHECK(ranges.size() == 2 && ranges[0].start == 0 && ranges[1].start == 14);
+    CHECK(map.allocate_all({{request::first(1, 1), 9}, {request::last(9, 1), 10}}, ranges, &failed,
+                           &refusal) == DVS_RESOURCE_NOT_AVAILABLE);
+    CHECK(failed == 1 && ranges.size() == 2);
+    CHECK(!map.conflict(request::exact(2, 1, 2), refusal) && is_range(refusal.other, 1, 2));
+    CHECK(!map.move_conflict({1, 2}, request::exact(3, 1, 2), refusal));
+    CHECK(is_range(refusal.other, 4, 7));
+    CHECK(!map.list_gaps(4, &gap, 1, count) && count == 1 && is_range(gap, 8, 13));
+    CHECK(!map.ranges_in({2, 4}, all) && all.size() == 2 && all[0].value == 7);
+    CHECK(map.ranges_in({2, 1}, all, &refusal) == DVS_INVALID_RANGE && all.size() == 2);
+    const auto see = [&](dvs_valued_range one) { return values.push_back(one.value), true; };
+    CHECK(!map.for_each_from(5, see) && !map.for_each_back(2, see));
+    CHECK(values == std::vector<uint64_t>({8, 10, 7, 9}));
+}
+
 /* An action that cannot be copied, and counts its calls. */
 struct take_two {
     std::vector<dvs_range> *seen;
@@ -1176,6 +1206,7 @@ int main() {
     reserve_in_windows();
     save();
     keep_values();
+    keep_several_values();
     tell_details();
     ask_empty({}, {}, {});
     run_out_of_memory();

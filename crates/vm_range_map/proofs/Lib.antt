@@ -3,6 +3,7 @@ pub mod Indices
 pub mod Places
 pub mod HeldRanges
 pub mod MapStates
+pub mod SeveralValues
 pub mod MapCalls
 pub mod ValuedLists
 pub mod Pairs

@@ -1,5 +1,6 @@
 -- A call of a map has one result, if memory suffices.
 use Rattle.std.proofs.Common.{◌≡◌, ◌≢◌, ℕ, arith, refl, sym, ap, ◌∙◌, inl, inr, ◌⊎◌, ⊎_elim, subst, Option, Some, None, Result, Ok, Err}
+use Rattle.std.specs.FinMap as map
 use Rattle.vm_ranges.specs.Range.{Range}
 use Rattle.vm_ranges.specs.Request.{Request}
 use Rattle.vm_ranges.specs.declared.error.Error.{Error}
@@ -11,7 +12,7 @@ use Rattle.vm_range_map.specs.RangeMaps.{
   IsMapState,
   with_value,
   with_moved,
-  without_values,
+  with_table,
   MakesMap,
   GivesValue,
   AllocatesWith,
@@ -31,7 +32,7 @@ module _ {X : Type 0} where
       MakesMap base size answer → MakesMap base size other → answer ≡ other
   unfolding MakesMap
   made_map_once base size answer other p q a b =
-      a.2 ∙ ap without_values (made_once base size a.0 b.0 (λ e. p (a.2 ∙ ap without_values e)) (λ e. q (b.2 ∙ ap without_values e)) a.1 b.1) ∙ sym b.2
+      a.2 ∙ ap (with_table map.empty) (made_once base size a.0 b.0 (λ e. p (a.2 ∙ ap (with_table map.empty) e)) (λ e. q (b.2 ∙ ap (with_table map.empty) e)) a.1 b.1) ∙ sym b.2
 
   -- ---- Allocating
   module _ (old new later : MapState X) (value : X) (answer other : Result Range Error) (p : answer ≢ Err OutOfMemory)

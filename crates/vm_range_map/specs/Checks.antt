@@ -1,11 +1,12 @@
 -- The list of values behind the table of a map, the indices of the values, and the iterator over both. Only private functions
 -- cite these definitions.
-use Rattle.std.specs.Prelude.{◌≡◌, ℕ, ◌<◌, List, [], ◌∷◌, length, map as map_list, Option, Some, None, option_map, IfSome, IsSome}
-use Rattle.std.specs.List.{slice_get, cons_option}
+use Rattle.std.specs.Prelude.{◌≡◌, ◌≢◌, ℕ, ◌<◌, List, [], ◌∷◌, length, map as map_list, Option, Some, None, option_map, IfSome, IsSome}
+use Rattle.std.specs.List.{Contains, slice_get, cons_option}
 use Rattle.std.specs.Ordering.{nat_cmp}
 use Rattle.std.specs.FinMap as map
 use Rattle.vm_ranges.specs.Range.{Range}
 use Rattle.vm_list.specs.Entries.{entry_at, with_entry}
+use Rattle.vm_range_map.specs.RangeMaps.{with_values}
 use Rattle.vm_range_map.specs.declared.range_map.value_table.ValueAt.{ValueAt}
 use Rattle.vm_range_map.specs.declared.range_map.value_table.IndexAt.{IndexAt}
 
@@ -44,6 +45,18 @@ module _ {X : Type 0} where
     pub indexed : AreIndexed indices vs
     pub entries : map.entries indices ≡ map_list entry_of es
     pub values : values_of vs ≡ table
+
+  -- Each of the ranges starts where no value is, and no two of them have the same start.
+  abbrev pub AreNewStarts : map.FinMap nat_cmp X → List Range → Type 0
+  AreNewStarts values [] = Unit {0}
+  AreNewStarts values (r ∷ rs) =
+      (map.get values r.start ≡ None) × ((q : Range) → Contains rs q → q.start ≢ r.start) × AreNewStarts values rs
+
+  -- The table after is the one before, after each range got a value. Before, no value was at its start.
+  pub record AreInserted (before : map.FinMap nat_cmp X) (rs : List Range) (vs : List X) (after : map.FinMap nat_cmp X) : Type 0 where
+    pub many : length rs ≡ length vs
+    pub new : AreNewStarts before rs
+    pub table : after ≡ with_values before rs vs
 
   -- The item at k has an entry, if there is one.
   abbrev pub IsKnownAt : List (ValueAt X) → ℕ → List IndexAt → Type 0

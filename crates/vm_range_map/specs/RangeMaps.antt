@@ -1,5 +1,5 @@
 -- Allocated ranges with a value each, and the results of the calls of their map.
-use Rattle.std.specs.Prelude.{◌≡◌, ◌≢◌, ℕ, ◌⊎◌, ◌↔◌, Some, None, IsSome, Option, MatchOption, Result, Ok, Err, MatchResult}
+use Rattle.std.specs.Prelude.{◌≡◌, ◌≢◌, ℕ, ◌⊎◌, ◌↔◌, List, [], ◌∷◌, Some, None, IsSome, Option, MatchOption, Result, Ok, Err, MatchResult}
 use Rattle.std.specs.List.{Contains}
 use Rattle.std.specs.Ordering.{nat_cmp}
 use Rattle.std.specs.FinMap as map
@@ -7,10 +7,13 @@ use Rattle.vm_ranges.specs.Cases.{IfElse}
 use Rattle.vm_ranges.specs.Range.{Range, IsIn, IsInNone}
 use Rattle.vm_ranges.specs.Request.{Request}
 use Rattle.vm_ranges.specs.declared.error.Error.{Error}
+use Rattle.vm_ranges.specs.declared.error.ListError.{ListError}
 use Rattle.vm_ranges.specs.declared.error.Error.TheVariants.{ResourceNotAvailable, OutOfMemory}
 use Rattle.vm_ranges.specs.Address.{AddressState, IsAddressState, holding, releasing}
 use Rattle.vm_ranges.specs.Answer.{Allocates, Makes}
+use Rattle.vm_addresses.specs.Held.{MakesWithHeld}
 use Rattle.vm_addresses.specs.Moves.{MovesRange}
+use Rattle.vm_addresses.specs.Several.{AllocatesEach, FailsAtIndex}
 
 -- The state of a map: its space, and the value of each held range by the start of the range.
 pub record MapState (X : Type 0) : Type 0 where
@@ -55,14 +58,26 @@ abbrev pub AreCopies : {X : Type 0} → (X → X → Type 0) → map.FinMap nat_
 AreCopies {X} clones values copy =
     (s : ℕ) → MatchOption (map.get values s) (map.get copy s ≡ None) (λ v. (w : X) × (map.get copy s ≡ Some w) × clones v w)
 
--- The space without values, or the error that there is no space.
-abbrev pub without_values : {X : Type 0} → Result AddressState Error → Result (MapState X) Error
-without_values (Ok space) = Ok (map_of space map.empty)
-without_values (Err e) = Err e
+-- The table after each range of a list gets its value.
+abbrev pub with_values : {X : Type 0} → map.FinMap nat_cmp X → List Range → List X → map.FinMap nat_cmp X
+with_values values [] vs = values
+with_values values (r ∷ rs) [] = values
+with_values values (r ∷ rs) (v ∷ vs) = map.insert (with_values values rs vs) r.start v
+
+-- The space with these values, or the error that there is no space.
+abbrev pub with_table : {X : Type 0} → map.FinMap nat_cmp X → Result AddressState Error → Result (MapState X) Error
+with_table values (Ok space) = Ok (map_of space values)
+with_table values (Err e) = Err e
 
 -- The result of `new` for the size addresses starting at base: that of the allocator, and no values.
 unfoldable pub MakesMap : {X : Type 0} → ℕ → ℕ → Result (MapState X) Error → Type 0
-MakesMap base size answer = (space : Result AddressState Error) × Makes base size space × (answer ≡ without_values space)
+MakesMap base size answer = (space : Result AddressState Error) × Makes base size space × (answer ≡ with_table map.empty space)
+
+-- The result of `with_held`: that of the allocator, and each held range has its value.
+unfoldable pub MakesMapWithHeld : {X : Type 0} → ℕ → ℕ → List Range → List X → Result (MapState X) Error → Type 0
+MakesMapWithHeld base size held values answer =
+    (space : Result AddressState Error) × MakesWithHeld base size held space
+    × (answer ≡ with_table (with_values map.empty held values) space)
 
 -- The allocated range gets the value, or the result is OutOfMemory. If no range is allocated, the result is the error of the
 -- request. An error changes nothing.
@@ -77,6 +92,17 @@ unfoldable pub AllocatesWith : {X : Type 0} → MapState X → Request → X →
 AllocatesWith old request value answer new =
     (given : Result Range Error) × (space : AddressState)
     × Allocates old.space request given space × GivesValue old value given answer new
+
+-- The ranges that `allocate_all` returns: those of the allocator. Each gets the value of its request, and nothing else changes.
+abbrev pub AllocatesEachWith : {X : Type 0} → MapState X → List Request → List X → List Range → MapState X → Type 0
+AllocatesEachWith old requests values ranges new =
+    AllocatesEach old.space requests ranges new.space × (new.values ≡ with_values old.values ranges values)
+
+-- The error of `allocate_all`: the request that it names fails with it, after the ones before it got their ranges. An error that
+-- names none is OutOfMemory.
+abbrev pub FailsAsListed : AddressState → List Request → ListError → Type 0
+FailsAsListed old requests failure =
+    MatchOption failure.index (failure.error ≡ OutOfMemory) (λ index. FailsAtIndex old requests index failure.error)
 
 -- The result of `free`: a held range is freed, and its value is returned. Any other range is ResourceNotAvailable and changes
 -- nothing.

@@ -8,6 +8,7 @@ use Rattle.vm_space.specs.Shape.{Shape}
 use Rattle.vm_space.specs.Shape.{shape_code}
 use Rattle.vm_addresses.specs.Allocator.{state_of}
 use Rattle.vm_range_map.specs.declared.refused.Refused.{Refused}
+use Rattle.vm_range_map.specs.declared.refused.RefusedList.{RefusedList}
 use Rattle.vm_range_map.specs.RangeMaps.{MapState, map_of}
 
 -- The view of the address allocator of a map, and the value of each held range by the start of the range.
@@ -37,3 +38,8 @@ made_map (Err error) = Err error
 abbrev pub plain : {A X : Type 0} → Result A (Refused X) → Result A Error
 plain (Ok a) = Ok a
 plain (Err refused) = Err refused.error
+
+-- The result of a call with a list, without the list and the index that an error returns.
+abbrev pub plain_list : {A K X : Type 0} → Result A (RefusedList K X) → Result A Error
+plain_list (Ok a) = Ok a
+plain_list (Err refused) = Err refused.error.error

@@ -10,13 +10,15 @@
 //! # What is proved
 //!
 //! - The exact result of each call, and each error except out of memory under its condition
-//!   (`AllocatesWith`, `FreesWith`, `MovesWith`). An error leaves the same ranges with the same values, and that of
-//!   an allocation returns the value.
+//!   (`AllocatesWith`, `FreesWith`, `MovesWith`). An error leaves the same ranges with the same values, and returns
+//!   the values that the call was given.
+//! - A list of ranges or of requests is allocated as by `AddressAllocator`, and each range gets its value
+//!   (`MakesMapWithHeld`, `AllocatesEachWith`).
 //! - Ranges are allocated, moved and freed as by `AddressAllocator`.
 //! - A range has the value of its allocation, or that was written last, also after it moves and while other ranges
 //!   change.
-//! - The result of a call depends only on the space, the allocated ranges and their values, unless memory runs
-//!   out.
+//! - The result of a call without a list depends only on the space, the allocated ranges and their values, unless
+//!   memory runs out.
 //! - An iterator returns each range once, with its value, in order, from both ends, also if only the ranges in a window
 //!   are asked for.
 //! - A copy has the same space and the same ranges, each with a clone of its value.
@@ -32,6 +34,8 @@
 mod laws;
 mod range_map;
 mod refused;
+mod valued_list;
 
 pub use range_map::{RangeMap, ValuedRanges, ValuedRangesIn};
-pub use refused::Refused;
+pub use refused::{Refused, RefusedList};
+pub use valued_list::ValuedList;

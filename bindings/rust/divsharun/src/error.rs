@@ -1,7 +1,8 @@
 // SPDX-License-Identifier: Apache-2.0 OR BSD-3-Clause
 use crate::pad::pad;
 use crate::proved::vm_addresses as proved;
-use crate::{Conflict, NodeState, RangeInclusive};
+use crate::{Conflict, Constraint, NodeState, RangeInclusive, RangeMap};
+use alloc::vec::Vec;
 use core::fmt;
 
 /// The error of a call. A call that returns an error leaves the same ranges and ids allocated.
@@ -82,6 +83,14 @@ pub(crate) type TryListResult<T> = core::result::Result<T, ListError<TryError>>;
 /// The results of calls that allocate a range for a value.
 pub(crate) type ValueResult<T> = core::result::Result<RangeInclusive, ValueError<T>>;
 pub(crate) type TryValueResult<T> = core::result::Result<RangeInclusive, ValueError<T, TryError>>;
+
+/// The result of a call with items of which each has a value.
+pub(crate) type ItemsResult<R, K, T, E> =
+    core::result::Result<R, ValueError<Vec<(K, T)>, ListError<E>>>;
+pub(crate) type HeldResult<T> = ItemsResult<RangeMap<T>, RangeInclusive, T, Error>;
+pub(crate) type TryHeldResult<T> = ItemsResult<RangeMap<T>, RangeInclusive, T, TryError>;
+pub(crate) type AllResult<T> = ItemsResult<Vec<RangeInclusive>, Constraint, T, Error>;
+pub(crate) type TryAllResult<T> = ItemsResult<Vec<RangeInclusive>, Constraint, T, TryError>;
 
 /// The error of a call with the prefix `try_`. A call that returns an error leaves the same ranges and
 /// ids allocated.
@@ -246,10 +255,10 @@ impl<E: Into<TryError>> From<ListError<E>> for TryError {
     }
 }
 
-/// The error of a call that was given a value. It returns the value.
+/// The error of a call that was given a value, or a list of items with values. It returns the value or the list.
 ///
-/// `E` is [`TryError`] for a call with the prefix `try_`. The operator `?` converts it to its error, and
-/// drops the value. `Display` writes that error, so it has no `source`.
+/// `E` is [`TryError`] for a call with the prefix `try_`, and a [`ListError`] for a call with a list. The operator
+/// `?` converts it to its error, and drops the value. `Display` writes that error, so it has no `source`.
 ///
 /// # Example
 ///
@@ -271,7 +280,7 @@ impl<E: Into<TryError>> From<ListError<E>> for TryError {
 pub struct ValueError<T, E = Error> {
     /// The error.
     pub error: E,
-    /// The value that the call was given.
+    /// The value or the list that the call was given.
     pub value: T,
 }
 
@@ -286,6 +295,12 @@ impl<T: fmt::Debug, E: core::error::Error> core::error::Error for ValueError<T, 
 impl<T> From<ValueError<T>> for Error {
     fn from(refused: ValueError<T>) -> Error {
         refused.error
+    }
+}
+
+impl<T> From<ValueError<T, ListError>> for Error {
+    fn from(refused: ValueError<T, ListError>) -> Error {
+        refused.error.error
     }
 }
 

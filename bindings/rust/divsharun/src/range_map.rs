@@ -1,10 +1,14 @@
 // SPDX-License-Identifier: Apache-2.0 OR BSD-3-Clause
 use crate::address_allocator::part_of;
+use crate::convert::list_error;
+use crate::error::{AllResult, HeldResult, ItemsResult, TryAllResult, TryHeldResult};
 use crate::error::{TryResult, TryValueResult, ValueResult};
+use crate::proved::vm_addresses::{self, AddressAllocator, Error};
 use crate::proved::vm_range_map as proved;
-use crate::rattle::Global;
+use crate::rattle::{self, Global};
 use crate::traits::{allocator, iterate, twins, DebugList};
-use crate::{AllocPolicy, Conflict, Constraint, Gaps, RangeInclusive, Result, Window};
+use crate::{AllocPolicy, Conflict, Constraint, Gaps, RangeInclusive, Result, ValueError, Window};
+use alloc::vec::Vec;
 use core::fmt;
 
 /// Allocates ranges of addresses from one space, and keeps a value with each allocated range, such as
@@ -32,7 +36,7 @@ use core::fmt;
 /// assert_eq!(bus.free(&disk), Err(Error::ResourceNotAvailable));
 /// # Ok::<(), Error>(())
 /// ```
-pub struct RangeMap<T>(proved::RangeMap<T>);
+pub struct RangeMap<T>(pub(crate) proved::RangeMap<T>);
 
 impl<T> RangeMap<T> {
     twins! {
@@ -70,7 +74,99 @@ impl<T> RangeMap<T> {
         /// # Ok::<(), TryError>(())
         /// ```
         pub fn try_new -> TryResult;
+    }
 
+    twins! {
+        /// Creates a map of the `size` addresses starting at `base`, with these ranges allocated. They must
+        /// be in ascending order.
+        ///
+        /// The map is equal to one that allocated the ranges by `ExactMatch`.
+        ///
+        /// # Errors
+        ///
+        /// An error returns the list.
+        /// - The error of [`AddressAllocator::with_held`](crate::AddressAllocator::with_held).
+        ///
+        /// # Example
+        ///
+        /// ```rust
+        /// use divsharun::{Conflict, Error, RangeInclusive, RangeMap};
+        ///
+        /// let [rom, ram] = [(0x1000, 0x1fff), (0x3000, 0x3fff)]
+        ///     .map(|(start, end)| RangeInclusive::new(start, end).expect("a range"));
+        /// let bus = RangeMap::with_held(0, 0x4000, vec![(rom, "rom"), (ram, "ram")])?;
+        /// assert_eq!(bus.get(0x3010), Some((ram, &"ram")));
+        ///
+        /// let list = vec![(ram, "ram"), (rom, "rom")];
+        /// let refused = RangeMap::with_held(0, 0x4000, list.clone()).unwrap_err();
+        /// assert_eq!((refused.error.index, refused.value), (Some(1), list));
+        /// assert_eq!(refused.error.error, Error::ResourceNotAvailable);
+        /// assert_eq!(refused.error.conflict, Some(Conflict::NotAfter(ram)));
+        /// # Ok::<(), Error>(())
+        /// ```
+        #[doc(alias = "from_iter")]
+        pub fn with_held(base: u64, size: u64, held: Vec<(RangeInclusive, T)>) -> HeldResult<T> {
+            let space = vm_addresses::RangeInclusive::from_start_len(base, size).ok();
+            let made = with_list(
+                space,
+                (held, |range| range.0, RangeInclusive),
+                |_, held| proved::RangeMap::with_held(Global, base, size, held),
+                |space, held, index| AddressAllocator::list_conflict(&space?, held, index),
+            );
+            Ok(RangeMap(made?))
+        }
+
+        pub fn try_with_held -> TryHeldResult;
+
+        /// Allocates a range for each request, in their order, and returns the ranges. Each range gets the
+        /// value of its request, and is where [`allocate_constraint`](Self::allocate_constraint) places it
+        /// after the requests before it.
+        ///
+        /// # Errors
+        ///
+        /// An error returns the list. It allocates no range, and all later calls have the same results.
+        /// - The error of [`AddressAllocator::allocate_all`](crate::AddressAllocator::allocate_all).
+        ///
+        /// # Example
+        ///
+        /// ```rust
+        /// use divsharun::{AllocPolicy, Constraint, Error, RangeMap};
+        ///
+        /// let mut bus = RangeMap::new(0xd000_0000, 0x4000)?;
+        /// let registers = Constraint::new(0x1000, 0x1000, AllocPolicy::FirstMatch)?;
+        /// let buffer = Constraint::new(0x2000, 0x2000, AllocPolicy::LastMatch)?;
+        /// let bars = bus.allocate_all(vec![(registers, "registers"), (buffer, "buffer")])?;
+        /// assert_eq!(bus.get(0xd000_2000), Some((bars[1], &"buffer")));
+        ///
+        /// // Only one of these two fits.
+        /// let list = vec![(registers, "disk"), (registers, "net")];
+        /// let refused = bus.allocate_all(list.clone()).unwrap_err();
+        /// assert_eq!((refused.error.index, refused.value), (Some(1), list));
+        /// assert_eq!(refused.error.error, Error::ResourceNotAvailable);
+        /// assert_eq!(bus.held_count(), 2);
+        /// # Ok::<(), Error>(())
+        /// ```
+        pub fn allocate_all(&mut self, requests: Vec<(Constraint, T)>) -> AllResult<T> {
+            // Nothing can fail after the allocation of the ranges.
+            let Ok(ranges) = rattle::Vec::with_capacity(Global, requests.len()) else {
+                return Err(out_of_memory(requests));
+            };
+            let mut ranges = Vec::from(ranges);
+            let allocated = with_list(
+                &mut self.0,
+                (requests, |request| request.0, Constraint),
+                |map, requests| map.allocate_all(Global, requests),
+                |map, requests, index| map.addresses().conflict(*requests.get(index)?),
+            )?;
+            ranges.extend(allocated.iter().map(|range| RangeInclusive(*range)));
+            Ok(ranges)
+        }
+
+        /// `OutOfMemory` has no index if memory for a list or for a value runs out.
+        pub fn try_allocate_all -> TryAllResult;
+    }
+
+    twins! {
         /// Allocates `size` free addresses that start at a multiple of `alignment`, keeps `value` with their
         /// range, and returns the range. `policy` chooses the range as in
         /// [`AddressAllocator::allocate`](crate::AddressAllocator::allocate).
@@ -403,6 +499,43 @@ impl<T> RangeMap<T> {
     {
         Ok(RangeMap(self.0.try_clone(Global)?))
     }
+}
+
+/// Makes a call with a list of items and their values, which can be on an object. An error returns the list.
+/// The items are given with the functions that convert one to that of the proved code and back. `conflict` returns
+/// the conflict of the item with an index.
+fn with_list<S, R, K, P, T, C: Into<Conflict>, E: From<Error>>(
+    mut object: S,
+    (mut items, to, from): (Vec<(K, T)>, impl Fn(K) -> P, impl Fn(P) -> K),
+    call: impl FnOnce(
+        &mut S,
+        proved::ValuedList<P, T>,
+    ) -> core::result::Result<R, proved::RefusedList<P, T>>,
+    conflict: impl FnOnce(S, &[P], usize) -> Option<C>,
+) -> ItemsResult<R, K, T, E> {
+    let Ok(mut list) = proved::ValuedList::with_capacity(Global, items.len()) else {
+        return Err(out_of_memory(items));
+    };
+    for (item, value) in items.drain(..) {
+        // The list has the capacity for each item.
+        let _ = list.push(to(item), value);
+    }
+    call(&mut object, list).map_err(|refused| {
+        let (of_proved, values) = refused.list.into_lists();
+        let error = list_error(refused.error, |index| conflict(object, &of_proved, index));
+        let converted = Vec::from(of_proved).into_iter().map(from);
+        items.extend(converted.zip(Vec::from(values)));
+        ValueError {
+            error,
+            value: items,
+        }
+    })
+}
+
+/// Returns the error of a call with a list if memory runs out.
+fn out_of_memory<V, E: From<Error>>(value: V) -> ValueError<V, crate::ListError<E>> {
+    let error = list_error(Error::OutOfMemory, |_| None::<Conflict>);
+    ValueError { error, value }
 }
 
 allocator! {

@@ -8,7 +8,10 @@ mod model;
 mod refusing;
 
 use divsharun::AllocPolicy::{ExactMatch, FirstMatch, LastMatch};
-use divsharun::{Constraint, Error, RangeInclusive, RangeMap, TryError};
+use divsharun::{
+    AddressAllocator, Conflict, Constraint, Error, ListError, RangeInclusive, RangeMap, TryError,
+    ValueError,
+};
 use draw::Draw;
 use items::{exact, expect_items, inexact};
 use model::{refused, Model, WIDTH};
@@ -51,6 +54,25 @@ fn answered<T>(
     (!ran_out).then(|| refused(answer))
 }
 
+/// The result of a call with a list of items and values.
+type OfList<R, K, T, E> = Result<R, ValueError<Vec<(K, T)>, ListError<E>>>;
+
+/// Returns the result of a call with a list, of which an error returns the list. `index` and `conflict` are those of
+/// the error, unless memory ran out.
+fn of_list<R, K: PartialEq, T: PartialEq, E: Into<TryError>>(
+    answer: OfList<R, K, T, E>,
+    list: &[(K, T)],
+    (index, conflict): (Option<usize>, Option<Conflict>),
+) -> Result<R, TryError> {
+    answer.map_err(|refused| {
+        assert!(refused.value == list);
+        let found = (refused.error.index, refused.error.conflict);
+        let error = refused.error.into();
+        assert!(error == TryError::OutOfMemory || found == (index, conflict));
+        error
+    })
+}
+
 impl Compared {
     fn new(base: u64, width: u64) -> Compared {
         Compared {
@@ -80,6 +102,68 @@ impl Compared {
             self.ranges.held.extend(answer.ok());
             self.values.extend(answer.ok().map(|range| (range, value)));
         }
+    }
+
+    /// Allocates a range for each of a few requests, or for none.
+    fn allocate_all(&mut self, value: u64, fails: u64, draw: &mut Draw) {
+        let count = draw.below(4);
+        let list: Vec<_> = (0..count)
+            .map(|number| (request(&self.ranges, draw), 10 * value + number))
+            .collect();
+        let (mut after, mut refused) = (self.ranges.clone(), (None, None));
+        let expected = list.iter().enumerate().try_for_each(|(index, (asked, _))| {
+            refused = (Some(index), self.ranges.conflict(*asked));
+            after.held.push(after.allocate(*asked)?);
+            Ok(())
+        });
+        let given = list.clone();
+        let answer = answered(fails, || match fails {
+            0 => of_list(self.map.allocate_all(given), &list, refused),
+            _ => of_list(self.map.try_allocate_all(given), &list, refused),
+        });
+        if let Some(answer) = answer {
+            let ranges = after.held[self.ranges.held.len()..].to_vec();
+            assert_eq!(answer, expected.map(|()| ranges.clone()));
+            if answer.is_ok() {
+                self.ranges = after;
+                let values = list.iter().map(|(_, value)| *value);
+                self.values.extend(ranges.into_iter().zip(values));
+            }
+        }
+    }
+
+    /// Makes a map of the same ranges and values, and one of a list with an error.
+    fn expect_made(&self, draw: &mut Draw) {
+        let (base, width) = (self.ranges.base, self.ranges.width);
+        let mut list: Vec<_> = self
+            .values
+            .iter()
+            .map(|(at, value)| (*at, *value))
+            .collect();
+        for fails in 0..9 {
+            let given = list.clone();
+            let made = answered(fails, || match fails {
+                0 => of_list(RangeMap::with_held(base, width, given), &list, (None, None)),
+                _ => of_list(
+                    RangeMap::try_with_held(base, width, given),
+                    &list,
+                    (None, None),
+                ),
+            });
+            made.into_iter()
+                .for_each(|made| assert!(made.as_ref() == Ok(&self.map)));
+        }
+        list.extend(list.first().copied());
+        let any = draw.below(list.len().max(1) as u64) as usize;
+        list.get_mut(any..).into_iter().for_each(<[_]>::reverse);
+        let ranges: Vec<_> = list.iter().map(|(range, _)| *range).collect();
+        let expected = AddressAllocator::with_held(base, width, &ranges);
+        let made = RangeMap::with_held(base, width, list.clone());
+        assert_eq!(
+            made.as_ref().err().map(|refused| &refused.error),
+            expected.as_ref().err()
+        );
+        assert!(made.map_or_else(|refused| refused.value, |_| list.clone()) == list);
     }
 
     fn move_any(&mut self, number: usize, fails: u64, draw: &mut Draw) {
@@ -151,7 +235,8 @@ fn answers_are_those_of_a_plain_model() {
             let held = compared.ranges.held.len() as u64;
             let any = draw.below(held.max(1)) as usize;
             match draw.below(8) {
-                0..=3 => compared.allocate(value, fails, &mut draw),
+                0..=2 => compared.allocate(10 * value, fails, &mut draw),
+                3 => compared.allocate_all(value, fails, &mut draw),
                 4 => compared.look_up(value, &mut draw),
                 _ if held == 0 => continue,
                 5 => compared.move_any(any, fails, &mut draw),
@@ -161,6 +246,7 @@ fn answers_are_those_of_a_plain_model() {
             }
             if value % 50 == 0 {
                 compared.expect_equal(&mut draw);
+                compared.expect_made(&mut draw);
             }
         }
         assert!(width == WIDTH || compared.ranges.held.len() > 100);
@@ -210,6 +296,11 @@ fn values_are_dropped_once() {
         drop(refused);
         assert_eq!(Rc::strong_count(&value) as u64, 1 + number);
     }
+    let one = Constraint::new(1, 1, FirstMatch).unwrap();
+    let refused = map.allocate_all(vec![(one, value.clone())]).unwrap_err();
+    assert!(Rc::ptr_eq(&refused.value[0].1, &value));
+    assert_eq!(Error::from(refused), Error::ResourceNotAvailable);
+    assert_eq!(Rc::strong_count(&value), 5);
     let freed = map.free(&RangeInclusive::new(2, 2).unwrap());
     assert!(freed.is_ok_and(|freed| Rc::ptr_eq(&freed, &value)));
     let copy = map.clone();

@@ -1068,11 +1068,9 @@ fn maps_are_saved_with_their_values() {
     let (low, high) = (&MAP[list..items], &MAP[items + 1..MAP.len() - 2]);
     let reversed = MAP.replace(&MAP[list..], &format!("{high},{low}]}}"));
     assert_eq!(
-        serde_json::from_str::<RangeMap<u64>>(&reversed).unwrap(),
-        map
+        error_of::<RangeMap<u64>>(&reversed),
+        format!("item 1: {ResourceNotAvailable}")
     );
-    let exactly = RangeInclusive::new(16, 19).unwrap();
-    let allocated = InvalidStateTransition(exactly, NodeState::Allocated);
     for (part, wrong, error) in [
         (r#""size":16"#, r#""size":0"#, &Underflow.to_string()[..]),
         (
@@ -1098,7 +1096,7 @@ fn maps_are_saved_with_their_values() {
         (
             r#""start":28,"end":31"#,
             r#""start":16,"end":19"#,
-            &allocated.to_string(),
+            &ResourceNotAvailable.to_string(),
         ),
         (
             r#""start":16"#,

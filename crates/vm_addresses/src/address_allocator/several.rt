@@ -47,7 +47,7 @@ impl AddressAllocator {
                     };
                 }
                 Err(error) => {
-                    free_all(self, &mut ranges);
+                    self.free_all(&mut ranges);
                     let index = Some(index);
                     return Err(ListError { index, error });
                 }
@@ -55,16 +55,16 @@ impl AddressAllocator {
         }
         Ok(ranges)
     }
-}
 
-/// Frees ranges that were allocated one after the other, the last one first. This leads back to the
-/// state before their allocation.
-fn free_all(allocator: &mut AddressAllocator, ranges: &mut Vec<RangeInclusive>)
-    ensures state { (before : AddressState) (requests : List Request) → IsAddressState before
-        → AllocatesEach before requests ranges.old.items (state_of allocator.old)
-        → state_of allocator.new ≡ before }
-{
-    while let Some(range) = ranges.pop() {
-        let _ = allocator.free(&range);
+    /// Frees ranges that were allocated one after the other, the last one first. This leads back to the
+    /// state before their allocation.
+    pub fn free_all(&mut self, ranges: &mut Vec<RangeInclusive>)
+        ensures state { (before : AddressState) (requests : List Request) → IsAddressState before
+            → AllocatesEach before requests ranges.old.items (state_of self.old)
+            → state_of self.new ≡ before }
+    {
+        while let Some(range) = ranges.pop() {
+            let _ = self.free(&range);
+        }
     }
 }

@@ -5,6 +5,11 @@
 ghost use Rattle.std.specs.Prelude.{
   ◌≡◌,
   ◌≢◌,
+  ◌+◌,
+  ◌≤◌,
+  List,
+  ◌++◌,
+  length,
   IsSome,
   Some,
   None,
@@ -16,12 +21,15 @@ ghost use Rattle.std.specs.Prelude.{
 };
 ghost use Rattle.std.specs.Borrow.{sem};
 ghost use Rattle.std.specs.List.{slice_get};
+ghost use Rattle.std.specs.Ordering.{nat_cmp};
+ghost use Rattle.std.specs.Vec.{vec_len, vec_capacity};
 ghost use Rattle.std.specs.FinMap as map;
-ghost use Rattle.vm_range_map.specs.Checks.{AreListed, IsKnownAt, renumbered};
-ghost use Rattle.vm_range_map.specs.RangeMaps.{AreCopies};
+ghost use Rattle.vm_range_map.specs.Checks.{AreListed, AreInserted, AreNewStarts, IsKnownAt, renumbered};
+ghost use Rattle.vm_range_map.specs.RangeMaps.{AreCopies, with_values};
 
 use std::alloc::{AllocError, AllocFailed, Global};
 use std::marker::Model;
+use vm_addresses::RangeInclusive;
 use vm_list::{Iter, Keyed, KeyedList};
 
 /// A value, and the start of its range.
@@ -152,6 +160,52 @@ impl<T: Drop> ValueTable<T> {
         let ValueAt { value, .. } = self.values.swap_remove(index);
         renumber(&mut self.indices, &self.values, index);
         Some(value)
+    }
+
+    /// Inserts the value of each range at its start. An error changes nothing, and returns the values.
+    pub(super) fn insert_all(
+        &mut self,
+        alloc: Global,
+        ranges: &[RangeInclusive],
+        values: Vec<T>,
+    ) -> Result<(), AllocFailed<Vec<T>>>
+        requires many { length ranges.now ≡ length values.items }
+        requires new { AreNewStarts self.old ranges.now }
+        ensures inserted { OnOk result (self.new ≡ with_values self.old ranges.now values.items) }
+        ensures err { OnErr result (self.new ≡ self.old) }
+        ensures returned { IfErr result (λ failed. failed.value.items ≡ values.items) }
+    {
+        let mut left = values;
+        while let Some(value) = left.pop() {
+            let at = left.len();
+            if let Err(failed) = self.insert(alloc, ranges[at].start(), value) {
+                let Ok(()) = left.push(failed.value) else {
+                    // The value was in the list before.
+                    unreachable!()
+                };
+                self.remove_all(&ranges[at + 1..], &mut left);
+                return Err(AllocFailed { value: left });
+            }
+        }
+        Ok(())
+    }
+
+    /// Removes the values of ranges that were inserted together, and appends them to a list that has the capacity.
+    fn remove_all(&mut self, ranges: &[RangeInclusive], values: &mut Vec<T>)
+        requires inserted { (before : map.FinMap nat_cmp T) × (removed : List T)
+            × AreInserted before ranges.now removed self.old }
+        requires room { vec_len values.old + length ranges.now ≤ vec_capacity values.old }
+        ensures { (before : map.FinMap nat_cmp T) (removed : List T) → AreInserted before ranges.now removed self.old
+            → (self.new ≡ before) × (values.new.items ≡ values.old.items ++ removed) }
+    {
+        for range in ranges {
+            let Some(value) = self.remove(range.start()) else {
+                unreachable!()
+            };
+            let Ok(()) = values.push(value) else {
+                unreachable!()
+            };
+        }
     }
 
     /// Moves the value at a start to another start, where there is none, or to the same start. An error changes

@@ -3,11 +3,13 @@
 
 use super::conditions::field_and_text;
 use super::{Map, ValuedRange};
+use crate::convert::list_error;
 use crate::proved::vm_addresses::{AddressAllocator, RangeInclusive, ReadNodes, SavedError, Side};
 use crate::proved::vm_devices::{DeviceManager, DeviceSlot, ReadDevices};
 use crate::proved::vm_ids::{IdAllocator, ReadIds};
-use crate::rattle::{Global, Vec};
-use crate::{NodeState, TryError};
+use crate::proved::vm_range_map::{RangeMap, RefusedList, ValuedList};
+use crate::rattle::Global;
+use crate::{Conflict, ListError, NodeState, TryError};
 use core::{fmt, mem};
 use serde::de::{DeserializeSeed, Error, MapAccess, SeqAccess, Visitor};
 use serde::{Deserialize, Deserializer};
@@ -251,23 +253,30 @@ impl<'de> Deserialize<'de> for crate::DeviceManager {
     }
 }
 
-impl<'de, T: Deserialize<'de>> Deserialize<'de> for Vec<T> {
+/// The ranges of a saved map with their values, as they were read.
+struct ReadRanges<T>(ValuedList<RangeInclusive, T>);
+
+impl<'de, T: Deserialize<'de>> Deserialize<'de> for ReadRanges<T> {
     fn deserialize<D: Deserializer<'de>>(from: D) -> Result<Self, D::Error> {
-        let push = |list: &mut Vec<T>, item| list.push(item).map_err(|_| SavedError::OutOfMemory);
-        from.deserialize_seq(List(Vec::new(Global), push))
+        let push = |list: &mut ValuedList<_, T>, ValuedRange { range, value }| {
+            let pushed = list.push(range.0, value);
+            pushed.map_err(|_| SavedError::OutOfMemory)
+        };
+        let list = ValuedList::with_capacity(Global, 0);
+        let list = list.map_err(|_| invalid(SavedError::OutOfMemory))?;
+        from.deserialize_seq(List(list, push)).map(ReadRanges)
     }
 }
 
 impl<'de, T: Deserialize<'de>> Deserialize<'de> for crate::RangeMap<T> {
     fn deserialize<D: Deserializer<'de>>(from: D) -> Result<Self, D::Error> {
-        let saved: Map<Vec<ValuedRange<T>>> = Map::deserialize(from)?;
-        let mut map = crate::RangeMap::try_new(saved.base, saved.size).map_err(D::Error::custom)?;
-        for ValuedRange { range, value } in alloc::vec::Vec::from(saved.ranges) {
-            let exact = crate::AllocPolicy::ExactMatch(range.start());
-            let made = map.try_allocate(range.len(), 1, exact, value);
-            made.map_err(D::Error::custom)?;
-        }
-        Ok(map)
+        let Map { base, size, ranges } = Map::<ReadRanges<T>>::deserialize(from)?;
+        let made = RangeMap::with_held(Global, base, size, ranges.0);
+        made.map(crate::RangeMap)
+            .map_err(|RefusedList { error, .. }| {
+                let failure: ListError<TryError> = list_error(error, |_| None::<Conflict>);
+                D::Error::custom(failure)
+            })
     }
 }
 

@@ -5,6 +5,8 @@
 
 mod range_map;
 mod refused;
+mod valued_list;
 
 pub use range_map::{RangeMap, ValuedRanges, ValuedRangesIn};
-pub use refused::Refused;
+pub use refused::{Refused, RefusedList};
+pub use valued_list::ValuedList;

@@ -13,6 +13,7 @@ mod allocating;
 mod comparing;
 mod iter;
 mod moving;
+mod several;
 mod value_table;
 mod windows;
 

@@ -15,7 +15,7 @@ valid : (c : goal.After-drop-ranges) → IsAddressState (state_of c.args.self.no
 valid c = rw (← c.self.view_is) (state_of_tree c.self.inside.tree c.self.invariant.tree)
 
 -- The state is that before the first request.
-state_again : (c : goal.After-drop-ranges) → state_of c.free_all.new.allocator ≡ state_of c.args.self.now
+state_again : (c : goal.After-drop-ranges) → state_of c.free_all.new.self ≡ state_of c.args.self.now
 state_again c =
     let l = c.loop-index in
     let first = state_of c.args.self.now in

@@ -34,7 +34,7 @@ impl AddressAllocator {
                     };
                 }
                 Err(error) => {
-                    free_all(self, &mut ranges);
+                    self.free_all(&mut ranges);
                     let index = Some(index);
                     return Err(ListError { index, error });
                 }
@@ -42,12 +42,12 @@ impl AddressAllocator {
         }
         Ok(ranges)
     }
-}
 
-/// Frees ranges that were allocated one after the other, the last one first. This leads back to the
-/// state before their allocation.
-fn free_all(allocator: &mut AddressAllocator, ranges: &mut Vec<RangeInclusive>) {
-    while let Some(range) = ranges.pop() {
-        let _ = allocator.free(&range);
+    /// Frees ranges that were allocated one after the other, the last one first. This leads back to the
+    /// state before their allocation.
+    pub fn free_all(&mut self, ranges: &mut Vec<RangeInclusive>) {
+        while let Some(range) = ranges.pop() {
+            let _ = self.free(&range);
+        }
     }
 }

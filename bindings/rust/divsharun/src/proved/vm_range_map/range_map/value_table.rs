@@ -5,6 +5,7 @@
 //! The values are in a list, in no order, each with the start of its range. A list of entries in the order of the
 //! starts has the index of each value. The last value takes the index of one that is removed.
 
+use crate::proved::vm_addresses::RangeInclusive;
 use crate::proved::vm_list::{Iter, Keyed, KeyedList};
 use crate::rattle::Vec;
 use crate::rattle::{AllocError, AllocFailed, Global};
@@ -98,6 +99,40 @@ impl<T> ValueTable<T> {
         let ValueAt { value, .. } = self.values.swap_remove(index);
         renumber(&mut self.indices, &self.values, index);
         Some(value)
+    }
+
+    /// Inserts the value of each range at its start. An error changes nothing, and returns the values.
+    pub(super) fn insert_all(
+        &mut self,
+        alloc: Global,
+        ranges: &[RangeInclusive],
+        values: Vec<T>,
+    ) -> Result<(), AllocFailed<Vec<T>>> {
+        let mut left = values;
+        while let Some(value) = left.pop() {
+            let at = left.len();
+            if let Err(failed) = self.insert(alloc, ranges[at].start(), value) {
+                let Ok(()) = left.push(failed.value) else {
+                    // The value was in the list before.
+                    unreachable!()
+                };
+                self.remove_all(&ranges[at + 1..], &mut left);
+                return Err(AllocFailed { value: left });
+            }
+        }
+        Ok(())
+    }
+
+    /// Removes the values of ranges that were inserted together, and appends them to a list that has the capacity.
+    fn remove_all(&mut self, ranges: &[RangeInclusive], values: &mut Vec<T>) {
+        for range in ranges {
+            let Some(value) = self.remove(range.start()) else {
+                unreachable!()
+            };
+            let Ok(()) = values.push(value) else {
+                unreachable!()
+            };
+        }
     }
 
     /// Moves the value at a start to another start, where there is none, or to the same start. An error changes

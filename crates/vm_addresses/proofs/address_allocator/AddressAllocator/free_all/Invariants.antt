@@ -5,13 +5,13 @@ use Rattle.vm_ranges.specs.Request.{Request}
 use Rattle.vm_ranges.specs.Address.{AddressState, IsAddressState}
 use Rattle.vm_addresses.specs.Allocator.{state_of}
 use Rattle.vm_addresses.specs.Several.{AllocatesEach}
-use Rattle.vm_addresses.proofs.address_allocator.several.free_all.Given as goal
+use Rattle.vm_addresses.proofs.address_allocator.AddressAllocator.free_all.Given as goal
 
 abbrev pub invariant-loop-range : goal.invariant-loop-range
 invariant-loop-range l = record {
   left : (before : AddressState) (requests : List Request) → IsAddressState before →
-      AllocatesEach before requests l.initial.ranges.items (state_of l.initial.allocator) →
-      (ps : List Request) × AllocatesEach before ps l.ranges.items (state_of l.allocator);
+      AllocatesEach before requests l.initial.ranges.items (state_of l.initial.self) →
+      (ps : List Request) × AllocatesEach before ps l.ranges.items (state_of l.self);
 }
 
 abbrev pub decreases-loop-range : goal.decreases-loop-range
