@@ -22,4 +22,5 @@ pub mod RunTops
 pub mod Pops
 pub mod Walks
 pub mod Rising
+pub mod Betweens
 mod Alones
