@@ -1,5 +1,5 @@
 -- The entries with keys from lo to hi, in the leaves between those of lo and hi.
-use Rattle.std.proofs.Common.{◌≡◌, ℕ, suc, ◌-◌, ◌<◌, ◌≤◌, min, Bool, true, false, ◌&&◌, List, [], ◌∷◌, ◌++◌, length, get_or, take, drop, reverse, nat_le, arith, sym, ap, ◌∙◌, subst, refl, inl, inr, ◌+◌, append_assoc, length-append}
+use Rattle.std.proofs.Common.{◌≡◌, ℕ, suc, ◌-◌, ◌<◌, ◌≤◌, min, Bool, true, false, ◌&&◌, List, [], ◌∷◌, ◌++◌, length, take, drop, reverse, nat_le, arith, sym, ap, ◌∙◌, subst, refl, inl, inr, ◌+◌, append_assoc, length-append}
 use Rattle.std.specs.List.{filter}
 use Rattle.std.proofs.lemmas.Bool.{cases_lt, cases_Bool, cond-true, cond-false, le-leb, lt-leb}
 use Rattle.std.proofs.lemmas.List.{append-nil, reverse-append, length-take, length-drop, get_or-take, get_or-drop, drop-take, take-append-drop}

@@ -23,4 +23,5 @@ pub mod Pops
 pub mod Walks
 pub mod Rising
 pub mod Betweens
+pub mod RunParts
 mod Alones
