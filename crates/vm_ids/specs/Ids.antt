@@ -10,6 +10,7 @@ use Rattle.std.specs.Prelude.{
   ◌⊎◌,
   not,
   nat_le,
+  ◌&&◌,
   if◌then◌else◌,
   max,
   List,

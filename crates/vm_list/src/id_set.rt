@@ -156,6 +156,8 @@ impl IdSet {
     /// one path of the tree for each end, and does not allocate.
     pub fn runs_from(&self, first: u32) -> (Option<Run>, Iter<'_, Run>)
         ensures ids { flat_map ids_of_run (option_to_list result.0 ++ result.1) ≡ filter (λ i. nat_le first i) self.now.keys }
+        ensures order { IsOrdered nat_cmp self.now }
+        ensures none { IfNone result.0 (result.1 ≡ []) }
         ensures lowest { IfSome result.0 (λ run. run.first ≤ run.last) }
         ensures others { All (λ run. run.first ≤ run.last) result.1 }
     {
@@ -176,6 +178,7 @@ impl IdSet {
     /// one path of the tree for each end, and does not allocate.
     pub fn runs_to(&self, last: u32) -> (Iter<'_, Run>, Option<Run>)
         ensures ids { flat_map ids_of_run (result.0 ++ option_to_list result.1) ≡ filter (λ i. nat_le i last) self.now.keys }
+        ensures none { IfNone result.1 (result.0 ≡ []) }
         ensures highest { IfSome result.1 (λ run. run.first ≤ run.last) }
         ensures others { All (λ run. run.first ≤ run.last) result.0 }
     {

@@ -1,11 +1,12 @@
 -- The walk over the ids that were allocated at some time visits exactly the held ids, from both ends.
-use Rattle.std.proofs.Common.{◌≡◌, ◌≢◌, ◌↔◌, ℕ, zero, suc, ◌+◌, ◌-◌, ◌^◌, ◌<◌, ◌≤◌, min, ◌⊎◌, Bool, true, false, cond, not, ◌||◌, List, [], ◌∷◌, ◌++◌, length, get_or, take, drop, sym, subst, refl, IfSome, ap, ◌∙◌, arith, inl, inr, Option, Some, None, option_to_list}
+use Rattle.std.proofs.Common.{◌≡◌, ◌≢◌, ◌↔◌, ℕ, zero, suc, ◌+◌, ◌-◌, ◌^◌, ◌<◌, ◌≤◌, min, ◌⊎◌, Bool, true, false, cond, not, ◌||◌, List, [], ◌∷◌, ◌++◌, length, get_or, take, drop, max, nat_le, ◌&&◌, sym, subst, refl, IfSome, IfNone, ap, ◌∙◌, arith, inl, inr, Option, Some, None, option_to_list}
 use Rattle.std.proofs.Math.Seq.{drop-append-add}
 use Rattle.std.proofs.lemmas.List.{append-nil, append_assoc, length-append, take-append-le}
-use Rattle.std.proofs.lemmas.List.FromFn.{length-range_with_len}
 use Rattle.std.proofs.lemmas.List.Elements.{Contains-get_or, filter-append, All-nil, All-cons, All-head, All-tail, All-push}
 use Rattle.vm_list.proofs.Runs.{in_run_test}
 use Rattle.std.proofs.lemmas.List.Folds.{list_any-append}
+use Rattle.std.proofs.lemmas.List.Kept.{IsStrictlySortedBy-filter}
+use Rattle.std.proofs.lemmas.Map.Views.{any-filter_same}
 use Rattle.std.proofs.lemmas.Map.Keys.{below_from_sorted}
 use Rattle.std.proofs.lemmas.Map.Made.{is_member-Decides}
 use Rattle.std.specs.Iterator.{YieldsFirst, YieldsLast}
@@ -14,11 +15,11 @@ use Rattle.std.specs.List.Sorted.{IsStrictlySortedBy}
 use Rattle.std.specs.Ordering.{nat_cmp, eq_by_cmp}
 use Rattle.std.specs.BTreeSet.{BTreeSet, IsOrdered}
 use Rattle.std.specs.FinSet as set
-use Rattle.vm_ids.specs.Ids.{IdState, IsHeld, held_ids, held_count, IsIdState, bound_of, ids_of, AreIds}
+use Rattle.vm_ids.specs.Ids.{IdState, IsHeld, held_ids, held_ids_in, held_count, IsIdState, bound_of, ids_of, AreIds}
 use Rattle.vm_ids.specs.Checks.IdQueries.{freed_from, freed_to, ids_left, held_end, held_start, AscendWithin, AreIdsLeft, IsFilled, AreFilled, Begins, Ends, runs_left}
 use Rattle.vm_list.specs.Runs.{ids_of_run}
 use Rattle.vm_list.specs.declared.id_set.Run.{Run}
-use Rattle.std.proofs.lemmas.Bool.{cases_lt}
+use Rattle.std.proofs.lemmas.Bool.{cases_lt, cases_Bool, cond-true, cond-false}
 use Rattle.std.proofs.lemmas.Grind.{flat_map-append}
 use Rattle.vm_ids.specs.Facts.{HeldIdsAreListed}
 use Rattle.vm_ids.proofs.Ids.IdSets.{held_test, bound_fits}
@@ -147,8 +148,7 @@ module _ (next bound n : ℕ) (l : next + n ≤ bound) (above below : List ℕ) 
       × (ids_left next bound above ≡ range_with_len next n ++ ids_left (next + n) bound above)
   visits_row r =
       let held = none_freed next n above (λ i a b. none_outside i (next + n) (2 ^ 32) above (inl b) r) in
-      let visited = ids_parted next (next + n) bound above (omega arith) l ∙ ap (λ (is : List ℕ). is ++ ids_left (next + n) bound above) held in
-      (
+      let visited = ids_parted next (next + n) bound above (omega arith) l ∙ ap (λ (is : List ℕ). is ++ ids_left (next + n) bound above) held in (
         record {
           ids = v.ids;
           from_next = r;
@@ -166,8 +166,7 @@ module _ (next bound n : ℕ) (l : next + n ≤ bound) (above below : List ℕ) 
       let held = ap (λ (k : ℕ). ids_left (bound - n) k above) (sym z) ∙ none_freed (bound - n) n above
       (λ i a b. v.same i (omega (arith, a, l)) (omega (arith, b, z)) ∙ none_outside i 0 (bound - n) below (inr a) r) in
       let visited = ids_parted next (bound - n) bound above (omega (arith, l)) (omega arith)
-      ∙ ap (λ (is : List ℕ). ids_left next (bound - n) above ++ is) held in
-      (
+      ∙ ap (λ (is : List ℕ). ids_left next (bound - n) above ++ is) held in (
         record {
           ids = omega (arith, v.ids);
           from_next = v.from_next;
@@ -449,7 +448,8 @@ row_dropped p a (suc n) h =
     rw (h a (omega arith) (omega arith), row_dropped p (a + 1) n (λ i l u. h i (omega arith) (omega arith))) refl
 
 -- Only a part of a row passes a test.
-row_middle : (p : ℕ → Bool) (a n low high : ℕ) → a ≤ low → high ≤ a + n → ((i : ℕ) → i < low → p i ≡ false) → ((i : ℕ) → high ≤ i → p i ≡ false) →
+row_middle : (p : ℕ → Bool) (a n low high : ℕ) → a ≤ low → high ≤ a + n → ((i : ℕ) → a ≤ i → i < low → p i ≡ false) →
+    ((i : ℕ) → high ≤ i → i < a + n → p i ≡ false) →
     filter p (range_with_len a n) ≡ filter p (range_with_len low (high - low))
 row_middle p a n low high l u f g = elim (cases_lt low high) [
   | inl m ↦ (
@@ -461,14 +461,14 @@ row_middle p a n low high l u f g = elim (cases_lt low high) [
       let two : low + y ≡ high = omega (arith, m) in
       ap (λ k. filter p (range_with_len a k)) sum ∙ ap (filter p) (row_parted a x (y + z))
       ∙ filter-append p (range_with_len a x) (range_with_len (a + x) (y + z))
-      ∙ ap (λ k. k ++ filter p (range_with_len (a + x) (y + z))) (row_dropped p a x (λ i b c. f i (omega (arith, c, one))))
+      ∙ ap (λ k. k ++ filter p (range_with_len (a + x) (y + z))) (row_dropped p a x (λ i b c. f i b (omega (arith, c, one))))
       ∙ ap (λ k. filter p (range_with_len k (y + z))) one ∙ ap (filter p) (row_parted low y z)
       ∙ filter-append p (range_with_len low y) (range_with_len (low + y) z)
-      ∙ ap (λ k. filter p (range_with_len low y) ++ k) (row_dropped p (low + y) z (λ i b c. g i (omega (arith, b, two))))
+      ∙ ap (λ k. filter p (range_with_len low y) ++ k) (row_dropped p (low + y) z (λ i b c. g i (omega (arith, b, two)) (omega (arith, c, two, u))))
       ∙ append-nil (filter p (range_with_len low y)))
   | inr m ↦ (
       let none : high - low ≡ 0 = omega (arith, m) in
-      row_dropped p a n (λ i b c. elim (cases_lt i low) [ inl q ↦ f i q | inr q ↦ g i (omega (arith, q, m)) ])
+      row_dropped p a n (λ i b c. elim (cases_lt i low) [ inl q ↦ f i b q | inr q ↦ g i (omega (arith, q, m)) c ])
       ∙ sym (ap (λ k. filter p (range_with_len low k)) none))
 ]
 
@@ -484,7 +484,14 @@ module _ (state : IdState) (lo hi first last : ℕ) (next : Option ℕ) (freed :
   pub walk_lists : ids_left (max lo first) (min (bound_of next hi) (last + 1)) above ≡ held_ids_in first last state
   unfolding ids_of ids_left
   walk_lists =
-      ?
+      let H : ℕ → Bool = λ i. set.contains (ids_of lo hi next freed).held i in
+      let W : ℕ → Bool = λ i. nat_le first i && nat_le i last in
+      let b : ℕ = bound_of next hi in
+      let low : ℕ = max lo first in
+      let high : ℕ = min b (last + 1) in
+      rw (← e) (sym (filter_both H W (range_with_len lo (b - lo))
+      ∙ row_middle (λ i. H i && W i) lo (b - lo) low high (omega arith) (omega arith) (λ i l u. grind arith) (λ i l u. grind arith)
+      ∙ same_kept (λ i. H i && W i) (kept above) low (high - low) (λ i l u. grind (arith, held_test, in_above i))))
 
   -- ---- The first state of the walk
   pub walk_starts : IsOrdered nat_cmp freed → AreIdsLeft (max lo first) (min (bound_of next hi) (last + 1)) above below
@@ -499,4 +506,19 @@ module _ (state : IdState) (lo hi first last : ℕ) (next : Option ℕ) (freed :
         same = λ i l u. grind (arith, in_above i, in_below i);
       }
 
-pub ruleset lists = (walk_lists, first_taken, last_taken, walk_starts)
+-- The runs of a walk that begins have the freed ids.
+pub from_parts : (taken : Option Run) (rest : List Run) → IfNone taken (rest ≡ []) → freed_from taken rest ≡ flat_map ids_of_run (option_to_list taken ++ rest)
+from_parts None rest n = sym (ap (flat_map ids_of_run) n)
+from_parts (Some run) rest n = refl
+
+pub to_parts : (rest : List Run) (taken : Option Run) → IfNone taken (rest ≡ []) → freed_to rest taken ≡ flat_map ids_of_run (rest ++ option_to_list taken)
+to_parts rest None n = sym (ap (λ l. flat_map ids_of_run (l ++ [])) n)
+to_parts rest (Some run) n = sym (last_run rest run)
+
+-- All held ids are those from the lowest id to the highest.
+pub all_held : (state : IdState) → IsIdState state → held_ids_in state.lo state.hi state ≡ held_ids state
+all_held state s =
+    let n : ℕ = state.bound - state.lo in
+    let H : ℕ → Bool = λ i. set.contains state.held i in
+    filter_both H (λ i. nat_le state.lo i && nat_le i state.hi) (range_with_len state.lo n)
+    ∙ same_kept (λ i. H i && (nat_le state.lo i && nat_le i state.hi)) H state.lo n (λ i l u. grind (arith, s.bound))
