@@ -235,7 +235,8 @@ impl<E: Keyed> KeyedList<E> {
     /// Returns an iterator over the entries with keys from `low` to `high`, in ascending order of their keys. It
     /// descends one path of the tree for each of these keys, and does not allocate.
     pub fn iter_between(&self, low: u64, high: u64) -> Iter<'_, E>
-        ensures { result ≡ between E.key_of low high (reverse self.now) }
+        ensures entries { result ≡ between E.key_of low high (reverse self.now) }
+        ensures order { IsDescendingBy E.key_of self.now }
     {
         self.tree.facts();
         let mut leaves = self.tree.leaves_between(low, high);

@@ -15,7 +15,7 @@ use Rattle.vm_list.proofs.id_set.IdSet.runs_to.Goals.{in_default-via-in-Some+the
 
 pub returns-in-Some-clause-ids : goal.returns-in-Some-clause-ids
 returns-in-Some-clause-ids c =
-    let e = rw c.into.ensures at c.iter_between-runs.ensures in
+    let e = rw c.into.ensures at c.iter_between-runs.ensures.entries in
     let f = sym c.in-Some.is ∙ c.run_from.ensures in
     let cut : Run = record { first = c.in-Some.run'.first; last = c.args.last } in
     flat_map-append ids_of_run c.iter_between-runs.result (cut ∷ []) ∙ ap (λ l. flat_map ids_of_run c.iter_between-runs.result ++ l) (append-nil (ids_of_run cut))
@@ -25,12 +25,12 @@ returns-in-Some-clause-ids c =
 
 pub returns-in-Some-clause-others : goal.returns-in-Some-clause-others
 returns-in-Some-clause-others c =
-    let e = rw c.into.ensures at c.iter_between-runs.ensures in
+    let e = rw c.into.ensures at c.iter_between-runs.ensures.entries in
     subst (λ l. All (λ (r : Run). r.first ≤ r.last) l) (sym e) (part_filled c.args.last RUNS_END _ c.self.invariant.0 0 c.args.last)
 
 pub returns-in_default-clause-ids : goal.returns-in_default-clause-ids
 returns-in_default-clause-ids c =
-    let e = rw c.into.ensures at c.iter_between-runs.ensures in
+    let e = rw c.into.ensures at c.iter_between-runs.ensures.entries in
     ap (flat_map ids_of_run) (sym (last_is _ _ _ c.highest_run-highest.ensures) ∙ e)
     ∙ all_to c.args.last RUNS_END _ c.self.invariant.0 (λ r f l. elim c.in_default.branch [
       | in_default-via-in-Some+then-run-last+else-last-run w ↦ (
@@ -46,12 +46,12 @@ returns-in_default-clause-ids c =
 
 pub returns-in_default-clause-others : goal.returns-in_default-clause-others
 returns-in_default-clause-others c =
-    let e = rw c.into.ensures at c.iter_between-runs.ensures in
+    let e = rw c.into.ensures at c.iter_between-runs.ensures.entries in
     (All-pop (λ (r : Run). r.first ≤ r.last) _ _ _ (sym e ∙ last_is _ _ _ c.highest_run-highest.ensures)
     (part_filled c.args.last RUNS_END _ c.self.invariant.0 0 c.args.last)).0
 
 pub returns-in_default-clause-highest : goal.returns-in_default-clause-highest
 returns-in_default-clause-highest c =
-    let e = rw c.into.ensures at c.iter_between-runs.ensures in
+    let e = rw c.into.ensures at c.iter_between-runs.ensures.entries in
     (All-pop (λ (r : Run). r.first ≤ r.last) _ _ _ (sym e ∙ last_is _ _ _ c.highest_run-highest.ensures)
     (part_filled c.args.last RUNS_END _ c.self.invariant.0 0 c.args.last)).1

@@ -7,8 +7,8 @@ use Rattle.vm_list.proofs.keyed_list.KeyedList.iter_between.Goals as goal
 pub leaves_between-leaves-requires : goal.leaves_between-leaves-requires
 leaves_between-leaves-requires g c = record { rise = rising g.E.Keyed.key_of _ (record { order = c.self.invariant; filled = c.facts.ensures.enough }) }
 
-pub returns-in_default : goal.returns-in_default
-returns-in_default g c =
+pub returns-in_default-clause-entries : goal.returns-in_default-clause-entries
+returns-in_default-clause-entries g c =
     let w = c.leaves_between-leaves.ensures in
     let e = rw c.in_default.ensures.none.1 at c.of_leaves.ensures in
     e ∙ in_no_leaf g.E.Keyed.key_of c.args.low c.args.high _ _ (record { order = c.self.invariant; filled = c.facts.ensures.enough })
@@ -21,16 +21,16 @@ within-requires g c =
     in_leaves_filled g.E.Keyed.key_of c.args.low c.args.high _ _ (record { order = c.self.invariant; filled = c.facts.ensures.enough })
     w.some w.none w.empty _ _ _ _ c.in-Some.ensures.some c.in-Some-last_leaf.ensures.some
 
-pub returns-in-Some-last_leaf : goal.returns-in-Some-last_leaf
-returns-in-Some-last_leaf g c =
+pub returns-in-Some-last_leaf-clause-entries : goal.returns-in-Some-last_leaf-clause-entries
+returns-in-Some-last_leaf-clause-entries g c =
     let w = c.leaves_between-leaves.ensures in
     let e = rw (c.between-lowest.ensures, c.between.ensures) at c.within.ensures in
     e ∙ in_leaves g.E.Keyed.key_of c.args.low c.args.high _ _ (record { order = c.self.invariant; filled = c.facts.ensures.enough })
     w.some w.none w.empty _ _ _ _ c.in-Some.ensures.some c.in-Some-last_leaf.ensures.some
     ∙ ap (λ l. between g.E.Keyed.key_of c.args.low c.args.high (reverse l)) c.self.view_is
 
-pub returns-in-None : goal.returns-in-None
-returns-in-None g c =
+pub returns-in-None-clause-entries : goal.returns-in-None-clause-entries
+returns-in-None-clause-entries g c =
     let w = c.leaves_between-leaves.ensures in
     let e = rw (c.between-lowest.ensures, c.in-None.ensures.none.1) at c.within-in-None.ensures in
     e ∙ in_one_leaf g.E.Keyed.key_of c.args.low c.args.high _ _ (record { order = c.self.invariant; filled = c.facts.ensures.enough })
