@@ -669,6 +669,8 @@ static void ask() {
     CHECK(!devices.slot(6, range) && is_range(range, 16, 19));
     CHECK(devices.slot(7, range) == DVS_NEVER_ALLOCATED);
     CHECK(!devices.ids(first, last) && first == 5 && last == 9);
+    dvs_device listed_device;
+    CHECK(!devices.list_devices(0, &listed_device, 1, length) && length == 0);
     CHECK(!devices.space(range) && is_range(range, 16, 31));
     CHECK(!devices.device_count(count) && count == 2);
 }
