@@ -2,8 +2,8 @@
 //! The device manager: an id and a range for each device.
 
 use crate::handle::{found, Handle};
-use crate::lists::fill;
 use crate::ids::{dvs_id_allocator, write_range};
+use crate::lists::fill;
 use crate::objects::{calls, object_calls, visits};
 use crate::proved::vm_addresses::{AllocPolicy, Constraint, Error};
 use crate::proved::vm_devices::{DeviceManager, DeviceSlot};

@@ -71,10 +71,11 @@ calls! {
     reads dvs_id_is_allocated(ids: In<dvs_id_allocator>, id: u32) -> is_allocated: bool {
         ids.is_allocated(id)
     }
-    reads dvs_id_list(ids: In<dvs_id_allocator>, from: u32, found: *mut u32, capacity: usize)
-        -> count: usize {
+    reads dvs_id_list(
+        allocator: In<dvs_id_allocator>, from: u32, ids: *mut u32, capacity: usize
+    ) -> count: usize {
         // SAFETY: the array is as the header requires.
-        unsafe { fill(ids.held_ids_in(from, u32::MAX), found, capacity) }?
+        unsafe { fill(allocator.held_ids_in(from, u32::MAX), ids, capacity) }?
     }
     reads dvs_id_count(ids: In<dvs_id_allocator>) -> count: u64 { ids.held_count() }
     reads dvs_id_free_count(ids: In<dvs_id_allocator>) -> count: u64 { ids.free_count() }

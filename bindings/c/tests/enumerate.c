@@ -667,7 +667,7 @@ static void visit_ids(void) {
     dvs_id_allocator_destroy(ids);
 }
 
-/* divsharun.h: "Writes the allocated ids at or above `from` to the array `ids`, like dvs_range_list()."
+/* divsharun.h: "Writes the allocated ids at or above `from` to the array `ids`"
  * Devices have the same ids, and ranges in their order. */
 static void list_ids_and_devices(void) {
     static const uint32_t held[] = {3, 4, 7, UINT32_MAX - 1, UINT32_MAX},

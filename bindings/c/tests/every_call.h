@@ -71,7 +71,7 @@ enum { MANY = 300 };
     CALL(DESTROY_IDS, dvs_id_allocator_destroy(ids)) \
     CALL(PEEK, dvs_id_peek(seen_ids, to_id)) \
     CALL(IS_ID_HELD, dvs_id_is_allocated(seen_ids, first, to_flag)) \
-    CALL(LIST_IDS, dvs_id_list(seen_ids, first, *results.several, 1, TO(results.length))) \
+    CALL(LIST_IDS, dvs_id_list(seen_ids, first, results.several, 1, TO(results.length))) \
     CALL(ID_COUNT, dvs_id_count(seen_ids, to_number)) \
     CALL(FREE_COUNT, dvs_id_free_count(seen_ids, to_number)) \
     CALL(ID_ENDS, dvs_id_allocator_range(seen_ids, to_id, to_last)) \
