@@ -66,7 +66,7 @@
  * dvs_range_is_allocated(), dvs_range_at() and dvs_gap_at(). An alignment can make
  * the search for a range visit more gaps. A visit or list within a range or from an
  * address takes time of the order of log k, plus the number of allocated ranges and gaps up to
- * where it ends.
+ * where it ends. A list of ids or devices does too, with ids, runs of freed ids, and devices.
  *
  * Calls on one id, device or range of a map take logarithmic time too, also if they skip
  * ids. An allocation in a map can also move its values, in linear time. Counts,
@@ -974,6 +974,13 @@ dvs_status dvs_id_count(const dvs_id_allocator *allocator, uint64_t *count) DVS_
 /* Writes the number of free ids to `count`. Errors: DVS_NULL. */
 dvs_status dvs_id_free_count(const dvs_id_allocator *allocator, uint64_t *count) DVS_WARN_UNUSED;
 
+/*
+ * Writes the allocated ids at or above `from` to the array `ids`, like dvs_range_list(). After
+ * the id UINT32_MAX there are no more. Errors: DVS_NULL.
+ */
+dvs_status dvs_id_list(const dvs_id_allocator *allocator, uint32_t from, uint32_t *ids,
+                       size_t capacity, size_t *count) DVS_WARN_UNUSED;
+
 /* The function that dvs_id_visit() calls for each id. It has the rules of dvs_range_visitor. */
 typedef int dvs_id_visitor(void *context, uint32_t id);
 
@@ -1126,6 +1133,13 @@ dvs_status dvs_device_at(const dvs_device_manager *manager, uint64_t address,
 
 /* Writes the number of devices to `count`. Errors: DVS_NULL. */
 dvs_status dvs_device_count(const dvs_device_manager *manager, uint64_t *count) DVS_WARN_UNUSED;
+
+/*
+ * Writes the devices with ids at or above `from` to the array `devices`, in ascending order of
+ * ids, like dvs_id_list(). Errors: DVS_NULL.
+ */
+dvs_status dvs_device_list(const dvs_device_manager *manager, uint32_t from, dvs_device *devices,
+                           size_t capacity, size_t *count) DVS_WARN_UNUSED;
 
 /* The function that dvs_device_visit() calls for each device. It has the rules of
  * dvs_range_visitor. */

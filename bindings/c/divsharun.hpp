@@ -530,6 +530,10 @@ class id_allocator : public owner<dvs_id_allocator, dvs_id_allocator_destroy, dv
     }
     error id_count(uint64_t &count) const noexcept { return dvs_id_count(get(), &count); }
     error free_count(uint64_t &count) const noexcept { return dvs_id_free_count(get(), &count); }
+    error list_ids(uint32_t from, uint32_t *ids, std::size_t capacity,
+                   std::size_t &count) const noexcept {
+        return dvs_id_list(get(), from, ids, capacity, &count);
+    }
     error ids(std::vector<uint32_t> &ids) const { return list_by(dvs_id_visit, ids); }
 };
 
@@ -584,6 +588,10 @@ class device_manager
     error device_count(uint64_t &count) const noexcept { return dvs_device_count(get(), &count); }
     error at(uint64_t address, dvs_device &device) const noexcept {
         return dvs_device_at(get(), address, &device);
+    }
+    error list_devices(uint32_t from, dvs_device *devices, std::size_t capacity,
+                       std::size_t &count) const noexcept {
+        return dvs_device_list(get(), from, devices, capacity, &count);
     }
     error devices(std::vector<dvs_device> &devices) const {
         return list_by(dvs_device_visit, devices);

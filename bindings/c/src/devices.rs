@@ -3,6 +3,7 @@
 
 use crate::handle::{found, Handle};
 use crate::ids::{dvs_id_allocator, write_range};
+use crate::lists::fill;
 use crate::objects::{calls, object_calls, visits};
 use crate::proved::vm_addresses::{AllocPolicy, Constraint, Error};
 use crate::proved::vm_devices::{DeviceManager, DeviceSlot};
@@ -83,6 +84,12 @@ calls! {
     }
     reads dvs_device_manager_space(manager: In<dvs_device_manager>) -> ends: dvs_range {
         manager.addresses().space().into()
+    }
+    reads dvs_device_list(
+        manager: In<dvs_device_manager>, from: u32, devices: *mut dvs_device, capacity: usize
+    ) -> count: usize {
+        // SAFETY: the array is as the header requires.
+        unsafe { fill(manager.devices_in(from, u32::MAX), devices, capacity) }?
     }
     reads dvs_device_count(manager: In<dvs_device_manager>) -> count: u64 { manager.device_count() }
     changes dvs_device_release(manager: In<dvs_device_manager>, id: u32) [refusal] {

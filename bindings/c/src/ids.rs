@@ -2,7 +2,7 @@
 //! The id allocator.
 
 use crate::handle::{non_null, Handle};
-use crate::lists::array;
+use crate::lists::{array, fill};
 use crate::objects::{calls, object_calls, visits};
 use crate::proved::vm_ids::IdAllocator;
 use crate::rattle::Global;
@@ -70,6 +70,12 @@ calls! {
     reads dvs_id_peek(ids: In<dvs_id_allocator>) -> id: u32 { ids.peek_id()? }
     reads dvs_id_is_allocated(ids: In<dvs_id_allocator>, id: u32) -> is_allocated: bool {
         ids.is_allocated(id)
+    }
+    reads dvs_id_list(
+        allocator: In<dvs_id_allocator>, from: u32, ids: *mut u32, capacity: usize
+    ) -> count: usize {
+        // SAFETY: the array is as the header requires.
+        unsafe { fill(allocator.held_ids_in(from, u32::MAX), ids, capacity) }?
     }
     reads dvs_id_count(ids: In<dvs_id_allocator>) -> count: u64 { ids.held_count() }
     reads dvs_id_free_count(ids: In<dvs_id_allocator>) -> count: u64 { ids.free_count() }

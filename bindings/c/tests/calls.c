@@ -626,6 +626,9 @@ static void give_null(void) {
     CHECK(dvs_range_map_list((dvs_range_map *)objects[3], 0, NULL, 1, &results.length) == DVS_NULL);
     CHECK(dvs_range_map_gap_list((dvs_range_map *)objects[3], 0, NULL, 1, &results.length) ==
           DVS_NULL);
+    CHECK(dvs_id_list((dvs_id_allocator *)objects[1], 0, NULL, 1, &results.length) == DVS_NULL);
+    CHECK(dvs_device_list((dvs_device_manager *)objects[2], 0, NULL, 1, &results.length) ==
+          DVS_NULL);
     dvs_text_destroy(NULL);
     use_objects();
 }

@@ -673,6 +673,45 @@ static void visit_ids(void) {
     dvs_id_allocator_destroy(ids);
 }
 
+/* divsharun.h: "Writes the allocated ids at or above `from` to the array `ids`"
+ * Devices have the same ids, and ranges in their order. */
+static void list_ids_and_devices(void) {
+    static const uint32_t held[] = {3, 4, 7, UINT32_MAX - 1, UINT32_MAX},
+                          from[] = {0, 3, 4, 5, 7, 8, UINT32_MAX - 1, UINT32_MAX};
+    enum { HELD = 5, LISTS = sizeof from / sizeof from[0] };
+    dvs_device_manager *manager;
+    dvs_id_allocator *ids;
+    dvs_device devices[HELD + 1];
+    uint32_t found[HELD + 1];
+    size_t capacity, count, first, i, j;
+
+    CHECK(dvs_device_manager_new(2, UINT32_MAX, 0, HELD, &manager, NULL) == DVS_OK);
+    for (i = 0; i < HELD; i++) {
+        const dvs_request request = {1, 1, i, DVS_EXACT, 0, 0};
+
+        CHECK(dvs_device_reserve_with_id(manager, held[i], held[i], &request, devices, NULL) ==
+              DVS_OK);
+    }
+    CHECK(dvs_device_manager_copy_ids(manager, &ids) == DVS_OK);
+    for (j = 0; j < LISTS; j++)
+        for (capacity = 0; capacity <= HELD + 1; capacity++) {
+            for (first = 0; held[first] < from[j];)
+                first++;
+            CHECK(dvs_id_list(ids, from[j], capacity == 0 ? NULL : found, capacity, &count) ==
+                  DVS_OK);
+            CHECK(count == (capacity < HELD - first ? capacity : HELD - first));
+            for (i = 0; i < count; i++)
+                CHECK(found[i] == held[first + i]);
+            CHECK(dvs_device_list(manager, from[j], devices, capacity, &count) == DVS_OK);
+            CHECK(count == (capacity < HELD - first ? capacity : HELD - first));
+            for (i = 0; i < count; i++)
+                CHECK(devices[i].id == held[first + i] &&
+                      is_range(devices[i].range, first + i, first + i));
+        }
+    dvs_id_allocator_destroy(ids);
+    dvs_device_manager_destroy(manager);
+}
+
 /* divsharun.h: "Allocates the `count` lowest free ids, or none, and writes them to `ids` in
  * ascending order." */
 static void allocate_several_ids(void) {
@@ -940,6 +979,7 @@ int main(void) {
     allocate_in_windows();
     allocate_none();
     visit_ids();
+    list_ids_and_devices();
     allocate_several_ids();
     look_up_devices();
     keep_values();

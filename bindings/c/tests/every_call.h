@@ -72,6 +72,7 @@ enum { MANY = 300 };
     CALL(DESTROY_IDS, dvs_id_allocator_destroy(ids)) \
     CALL(PEEK, dvs_id_peek(seen_ids, to_id)) \
     CALL(IS_ID_HELD, dvs_id_is_allocated(seen_ids, first, to_flag)) \
+    CALL(LIST_IDS, dvs_id_list(seen_ids, first, results.several, 1, TO(results.length))) \
     CALL(ID_COUNT, dvs_id_count(seen_ids, to_number)) \
     CALL(FREE_COUNT, dvs_id_free_count(seen_ids, to_number)) \
     CALL(ID_ENDS, dvs_id_allocator_range(seen_ids, to_id, to_last)) \
@@ -90,6 +91,7 @@ enum { MANY = 300 };
     CALL(DESTROY_MANAGER, dvs_device_manager_destroy(manager)) \
     CALL(DEVICE_SLOT, dvs_device_slot(seen_manager, first, to, REFUSAL)) \
     CALL(DEVICE_AT, dvs_device_at(seen_manager, n[0], to_device)) \
+    CALL(LIST_DEVICES, dvs_device_list(seen_manager, first, &results.device, 1, TO(results.length))) \
     CALL(DEVICE_COUNT, dvs_device_count(seen_manager, to_number)) \
     CALL(DEVICE_SPACE, dvs_device_manager_space(seen_manager, to)) \
     CALL(DEVICE_IDS, dvs_device_manager_ids(seen_manager, to_id, to_last)) \

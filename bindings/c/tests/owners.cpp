@@ -692,6 +692,7 @@ static void ask() {
     CHECK(space.is_allocated({2, 1}, is_allocated) == DVS_INVALID_RANGE);
     CHECK(!ids.make_with_held(5, 9, {5}) && !ids.range(first, last) && first == 5 && last == 9);
     CHECK(!ids.peek(id) && id == 6 && !ids.id_count(count) && count == 1);
+    CHECK(!ids.list_ids(0, &id, 1, length) && length == 1 && id == 5);
     CHECK(!ids.is_allocated(5, is_allocated) && is_allocated &&
           !ids.is_allocated(6, is_allocated) && !is_allocated);
     CHECK(!devices.make(5, 9, 16, 16) && !devices.reserve_last(4, 4, device));
@@ -701,6 +702,7 @@ static void ask() {
     CHECK(!devices.slot(6, range) && is_range(range, 16, 19));
     CHECK(devices.slot(7, range) == DVS_NEVER_ALLOCATED);
     CHECK(!devices.ids(first, last) && first == 5 && last == 9);
+    CHECK(!devices.list_devices(6, &device, 1, length) && length == 1 && device.id == 6);
     CHECK(!devices.space(range) && is_range(range, 16, 31));
     CHECK(!devices.device_count(count) && count == 2);
 }

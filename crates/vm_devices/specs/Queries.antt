@@ -1,6 +1,7 @@
 -- The devices of a manager as a list, the device at an address, and the order of states.
-use Rattle.std.specs.Prelude.{ℕ, List, map as map_list, Option, MatchOption}
+use Rattle.std.specs.Prelude.{ℕ, List, map as map_list, Option, MatchOption, nat_le, ◌&&◌}
 use Rattle.std.specs.declared.cmp.Ordering.{Ordering}
+use Rattle.std.specs.List.{filter}
 use Rattle.std.specs.Ordering.{nat_cmp, on, then_cmp}
 use Rattle.std.specs.Cmp.{IsTotalOrder}
 use Rattle.std.specs.Cmp.Lexicographic.{slice_cmp}
@@ -24,6 +25,10 @@ entry_of device = (device.id, device.range)
 -- The devices, by ascending ids.
 abbrev pub device_list : DeviceState → List DeviceSlot
 device_list state = map_list device_of (map.entries state.devices)
+
+-- The devices with ids from `first` to `last`, by ascending ids.
+abbrev pub device_list_in : ℕ → ℕ → DeviceState → List DeviceSlot
+device_list_in first last state = filter (λ d. nat_le first d.id && nat_le d.id last) (device_list state)
 
 -- The number of devices.
 abbrev pub device_count : DeviceState → ℕ

@@ -28,7 +28,7 @@ mod reserving;
 mod saved;
 
 use self::device_table::DeviceTable;
-pub use self::device_table::Devices;
+pub use self::device_table::{Devices, DevicesIn};
 pub use self::saved::read_devices::{ReadDevices, SAVED_VERSION};
 
 /// Reserves an id and a range of addresses for each device, both or neither.

@@ -10,6 +10,7 @@ use Rattle.std.specs.Prelude.{
   ◌⊎◌,
   not,
   nat_le,
+  ◌&&◌,
   if◌then◌else◌,
   max,
   List,
@@ -79,6 +80,10 @@ held_count state = set.len state.held
 -- The held ids, in ascending order.
 abbrev pub held_ids : IdState → List ℕ
 held_ids state = filter (λ i. set.contains state.held i) (range_with_len state.lo (state.bound - state.lo))
+
+-- The held ids from `first` to `last`, in ascending order.
+abbrev pub held_ids_in : ℕ → ℕ → IdState → List ℕ
+held_ids_in first last state = filter (λ i. nat_le first i && nat_le i last) (held_ids state)
 
 -- The ids that were allocated at some time and are not held, in ascending order.
 abbrev pub freed_ids : IdState → List ℕ

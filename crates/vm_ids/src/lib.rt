@@ -23,6 +23,6 @@ mod id_allocator;
 mod id_request;
 mod saved;
 
-pub use id_allocator::{FreedIds, HeldIds, IdAllocator};
+pub use id_allocator::{FreedIds, HeldIds, HeldIdsIn, IdAllocator};
 pub use id_request::IdRequest;
 pub use saved::ReadIds;

@@ -3,12 +3,12 @@
 ghost use Rattle.std.specs.Prelude.{◌≡◌, ◌↔◌, drop, IsTrue, IfOk, MatchResult, Ok, Err};
 ghost use Rattle.std.specs.Ordering.{eq_by_cmp};
 ghost use Rattle.vm_ids.specs.IdOrder.{id_state_cmp};
-ghost use Rattle.vm_ids.specs.Ids.{IsHeld, IsLowestNotHeld, held_ids};
+ghost use Rattle.vm_ids.specs.Ids.{IsHeld, IsLowestNotHeld, held_ids, held_ids_in};
 ghost use Rattle.vm_ids.specs.IdRequests.{AllocatesExactId, AllocatesIdIn, AllocatesIds, MakesWithHeldIds};
 
 use crate::fixtures::{ENOUGH, expect_eq, expect_true};
 use std::alloc::Global;
-use vm_ids::{HeldIds, IdAllocator};
+use vm_ids::{HeldIds, HeldIdsIn, IdAllocator};
 use vm_ranges::Result;
 
 /// Creates an allocator of which some ids are allocated.
@@ -64,6 +64,13 @@ fn after(ids: &IdAllocator, count: u64) -> HeldIds<'_>
     rest
 }
 
+/// Returns the allocated ids from `first` to `last`.
+fn between(ids: &IdAllocator, first: u32, last: u32) -> HeldIdsIn<'_>
+    ensures { result ≡ held_ids_in first last ids.now }
+{
+    ids.held_ids_in(first, last)
+}
+
 /// Returns `true` if two allocators have the same range and the same ids.
 fn are_same(one: &IdAllocator, other: &IdAllocator) -> bool
     ensures { result ≡ eq_by_cmp id_state_cmp one.now other.now }
@@ -86,6 +93,7 @@ fn uses_of_lists(rt: HostRuntime) {
     let others = [1, 3, 4, 5, 6, 7, 8, 9].as_slice();
     expect_true(&rt, all.as_slice() == others, "the others");
     expect_eq(&rt, after(&ids, 8).next(), Some(8), "the ninth");
+    expect_eq(&rt, between(&ids, 3, 8).next_back(), Some(8), "up to 8");
 }
 
 #[test]

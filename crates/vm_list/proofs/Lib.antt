@@ -22,4 +22,6 @@ pub mod RunTops
 pub mod Pops
 pub mod Walks
 pub mod Rising
+pub mod Betweens
+pub mod RunParts
 mod Alones

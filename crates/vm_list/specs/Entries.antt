@@ -1,5 +1,5 @@
 -- Lists of entries in descending order of their keys.
-use Rattle.std.specs.Prelude.{◌≡◌, ℕ, ◌<◌, ◌≤◌, List, ◌∷◌, ◌++◌, length, slice_index_or, nat_lt, nat_le, nat_eq, Option, Some, None, reverse}
+use Rattle.std.specs.Prelude.{◌≡◌, ℕ, ◌<◌, ◌≤◌, List, ◌∷◌, ◌++◌, length, slice_index_or, nat_lt, nat_le, nat_eq, Bool, ◌&&◌, Option, Some, None, reverse}
 use Rattle.std.specs.List.{filter, find}
 
 -- The keys descend.
@@ -30,6 +30,14 @@ above key t xs = filter (λ x. nat_lt t (key x)) xs
 -- The entries with keys below t.
 unfoldable pub below : {X : Type 0} → (X → ℕ) → ℕ → List X → List X
 below key t xs = filter (λ x. nat_lt (key x) t) xs
+
+-- The entry has a key from lo to hi.
+abbrev pub is_between : {X : Type 0} → (X → ℕ) → ℕ → ℕ → X → Bool
+is_between key lo hi x = nat_le lo (key x) && nat_le (key x) hi
+
+-- The entries with keys from lo to hi.
+unfoldable pub between : {X : Type 0} → (X → ℕ) → ℕ → ℕ → List X → List X
+between key lo hi xs = filter (is_between key lo hi) xs
 
 -- The list with the entry e, which replaces an entry with its key.
 unfoldable pub with_entry : {X : Type 0} → (X → ℕ) → X → List X → List X

@@ -22,7 +22,7 @@ ghost use Rattle.std.specs.Prelude.{
   Some,
   option_copied,
 };
-ghost use Rattle.vm_list.specs.Entries.{IsDescendingBy, with_entry, without, entry_at, at_or_above, highest_below, IsFoundAt, IsMissingAt};
+ghost use Rattle.vm_list.specs.Entries.{IsDescendingBy, with_entry, without, entry_at, at_or_above, highest_below, between, IsFoundAt, IsMissingAt};
 ghost use Rattle.vm_list.specs.Leaves.{lowest_key};
 ghost use Rattle.vm_list.specs.Puts.{CanLower};
 
@@ -237,6 +237,16 @@ impl<E: Keyed> Chunk<E> {
             return None;
         }
         Some(&self.entries[at - 1])
+    }
+
+    /// Returns the entries with keys from `low` to `high`.
+    pub fn between(&self, low: u64, high: u64) -> &[E]
+        ensures { result.now ≡ between E.key_of low high self.now }
+    {
+        let entries = self.entries.as_slice();
+        let end = place_from(entries, low);
+        let start = place(entries, high).min(end);
+        &entries[start..end]
     }
 
     /// Returns the entry with the highest key below this one, if there is one.

@@ -13,7 +13,9 @@ ghost use Rattle.std.specs.Prelude.{
   List,
   not,
   false,
+  nat_le,
   length,
+  option_to_list,
   IsTrue,
   IfOk,
   OnOk,
@@ -22,7 +24,8 @@ ghost use Rattle.std.specs.Prelude.{
   IfNone,
   MatchOption,
 };
-ghost use Rattle.std.specs.List.{All, flat_map, range_with_len};
+ghost use Rattle.std.specs.Iterator.{YieldsFirst, YieldsLast};
+ghost use Rattle.std.specs.List.{All, filter, flat_map, range_with_len};
 ghost use Rattle.std.specs.Ordering.{nat_cmp};
 ghost use Rattle.std.specs.BTreeSet.{IsEmpty, IsOrdered, contains};
 ghost use Rattle.vm_list.specs.Entries.{at_or_above, highest_below, with_entry};
@@ -149,6 +152,52 @@ impl IdSet {
         self.runs.iter()
     }
 
+    /// Returns the lowest run of the ids from `first` on, and an iterator over the other runs of these ids. It descends
+    /// one path of the tree for each end, and does not allocate.
+    pub fn runs_from(&self, first: u32) -> (Option<Run>, Iter<'_, Run>)
+        ensures ids { flat_map ids_of_run (option_to_list result.0 ++ result.1) ≡ filter (λ i. nat_le first i) self.now.keys }
+        ensures order { IsOrdered nat_cmp self.now }
+        ensures none { IfNone result.0 (result.1 ≡ []) }
+        ensures lowest { IfSome result.0 (λ run. run.first ≤ run.last) }
+        ensures others { All (λ run. run.first ≤ run.last) result.1 }
+    {
+        let mut runs = self.runs.iter_between(first.into(), u64::MAX);
+        match lowest_run(&mut runs) {
+            Some(run) => {
+                let cut = Run {
+                    first: run.first.max(first),
+                    last: run.last,
+                };
+                (Some(cut), runs)
+            }
+            None => (None, runs),
+        }
+    }
+
+    /// Returns the highest run of the ids up to `last`, and an iterator over the other runs of these ids. It descends
+    /// one path of the tree for each end, and does not allocate.
+    pub fn runs_to(&self, last: u32) -> (Iter<'_, Run>, Option<Run>)
+        ensures ids { flat_map ids_of_run (result.0 ++ option_to_list result.1) ≡ filter (λ i. nat_le i last) self.now.keys }
+        ensures none { IfNone result.1 (result.0 ≡ []) }
+        ensures highest { IfSome result.1 (λ run. run.first ≤ run.last) }
+        ensures others { All (λ run. run.first ≤ run.last) result.0 }
+    {
+        let mut runs = self.runs.iter_between(0, last.into());
+        match run_from(&self.runs, last) {
+            Some(run) if run.first <= last && last < run.last => {
+                let cut = Run {
+                    first: run.first,
+                    last,
+                };
+                (runs, Some(cut))
+            }
+            _ => {
+                let highest = highest_run(&mut runs);
+                (runs, highest)
+            }
+        }
+    }
+
     /// Returns `true` if both sets have the same ids. It stops at the first difference, and does not allocate.
     pub fn equals(&self, other: &Self) -> bool
         ensures same { IsTrue result ↔ (self.now.keys ≡ other.now.keys) }
@@ -210,6 +259,20 @@ impl IdSet {
         self.count += u64::from(last) + 1 - u64::from(first);
         Ok(())
     }
+}
+
+/// Takes the lowest run that is left.
+fn lowest_run(runs: &mut Iter<'_, Run>) -> Option<Run>
+    ensures { YieldsFirst (λ r. r) runs.old result runs.new }
+{
+    runs.next().copied()
+}
+
+/// Takes the highest run that is left.
+fn highest_run(runs: &mut Iter<'_, Run>) -> Option<Run>
+    ensures { YieldsLast (λ r. r) runs.old result runs.new }
+{
+    runs.next_back().copied()
 }
 
 /// Returns the lowest run that ends at an id or above it, if there is one.

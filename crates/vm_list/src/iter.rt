@@ -87,6 +87,22 @@ impl<'a, E: Keyed> Iter<'a, E> {
         }
     }
 
+    /// Returns an iterator over some entries of two leaves, and those of the leaves between them.
+    pub(crate) fn within(
+        lowest: &'a [E],
+        leaves: LeafIter<'a, Chunk<E>>,
+        highest: &'a [E],
+    ) -> Iter<'a, E>
+        requires { AllOf IsEnough leaves }
+        ensures { result ≡ reverse (left_in highest.now leaves.entry lowest.now) }
+    {
+        Iter {
+            leaves,
+            lowest,
+            highest,
+        }
+    }
+
     /// Returns an iterator over the entries of these leaves.
     pub(crate) fn of_leaves(leaves: LeafIter<'a, Chunk<E>>) -> Iter<'a, E>
         requires { AllOf IsEnough leaves }

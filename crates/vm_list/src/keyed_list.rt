@@ -22,6 +22,7 @@ ghost use Rattle.vm_list.specs.Entries.{
   entry_at,
   at_or_above,
   highest_below,
+  between,
 };
 ghost use Rattle.std.specs.List.{All};
 ghost use Rattle.vm_list.specs.Leaves.{items_of, IsEnough};
@@ -229,6 +230,24 @@ impl<E: Keyed> KeyedList<E> {
     {
         self.tree.facts();
         iter_of(self.tree.leaves())
+    }
+
+    /// Returns an iterator over the entries with keys from `low` to `high`, in ascending order of their keys. It
+    /// descends one path of the tree for each of these keys, and does not allocate.
+    pub fn iter_between(&self, low: u64, high: u64) -> Iter<'_, E>
+        ensures entries { result ≡ between E.key_of low high (reverse self.now) }
+        ensures order { IsDescendingBy E.key_of self.now }
+    {
+        self.tree.facts();
+        let mut leaves = self.tree.leaves_between(low, high);
+        let Some(first) = leaves.next_leaf() else {
+            return Iter::of_leaves(leaves);
+        };
+        let lowest = first.between(low, high);
+        match leaves.last_leaf() {
+            Some(last) => Iter::within(lowest, leaves, last.between(low, high)),
+            None => Iter::within(lowest, leaves, &[]),
+        }
     }
 }
 

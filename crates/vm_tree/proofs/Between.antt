@@ -1,12 +1,12 @@
 -- The leaves between two addresses.
-use Rattle.std.proofs.Common.{◌≡◌, ℕ, ◌-◌, ◌≤◌, ◌<◌, List, [], ◌∷◌, ◌++◌, length, Bool, true, false, nat_le, Option, Some, None, ◌∙◌, sym, refl, ap, subst, arith, inl, inr, append_assoc}
+use Rattle.std.proofs.Common.{◌≡◌, ℕ, ◌-◌, ◌≤◌, ◌<◌, List, [], ◌∷◌, ◌++◌, length, Bool, true, false, nat_le, Option, Some, None, ◌∙◌, sym, refl, ap, subst, arith, inl, inr, append_assoc, length-append}
 use Rattle.std.proofs.lemmas.Bool.{cases_lt, le-leb, lt-leb}
-use Rattle.std.proofs.lemmas.List.{append-nil}
+use Rattle.std.proofs.lemmas.List.{append-nil, append_cancel_left}
 use Rattle.vm_tree.specs.Entry.{Entry}
 use Rattle.vm_tree.specs.Subtree.{AllOf, AreFrom, Ascend}
 use Rattle.vm_tree.specs.Edits.{IsBefore}
 use Rattle.vm_tree.specs.Walks.{IsFrom, start_or}
-use Rattle.vm_tree.specs.Between.{kept, Rise, from_on, up_to, left_of, Has, IsWalk, IsFirstLeft, IsLastLeft, IsWhole}
+use Rattle.vm_tree.specs.Between.{kept, Rise, from_on, up_to, left_of, Has, IsWalk, IsFirstLeft, IsLastLeft, IsWhole, AreBetween, IsBetween}
 
 module _ {X : Type 0} where
   all_left : (P : X → Type 0) (xs ys : List X) → AllOf P (xs ++ ys) → AllOf P xs
@@ -155,12 +155,24 @@ module _ {X : Type 0} (en : X → Entry) where
     pub here : Has en (en leaf).at xs
     here = record { before = s.before; leaf = leaf; after = s.after; is = s.home.was; at = refl }
 
+    -- The leaves from this one on, and those up to it.
+    from_own : from_on en (en leaf).at xs ≡ leaf ∷ s.after
+    from_own =
+        let n = (en leaf).at in
+        ap (from_on en n) s.home.was ∙ from_append n s.before (leaf ∷ s.after)
+        ∙ ap (λ l. l ++ from_on en n (leaf ∷ s.after)) (from_none n s.before lower)
+        ∙ from_all n (leaf ∷ s.after) (omega arith, weaker (λ y. n < (en y).at) (λ y. n ≤ (en y).at) (λ y p. omega (arith, p)) s.after rest.0)
+
+    up_own : up_to en (en leaf).at xs ≡ s.before ++ leaf ∷ []
+    up_own =
+        let n = (en leaf).at in
+        ap (up_to en n) s.home.was ∙ up_append n s.before (leaf ∷ s.after)
+        ∙ ap (λ l. l ++ up_to en n (leaf ∷ s.after)) (up_all n s.before (weaker (λ y. (en y).at < n) (λ y. (en y).at ≤ n) (λ y p. omega (arith, p)) s.before lower))
+        ∙ ap (λ b. s.before ++ kept b leaf (up_to en n s.after)) (le-leb n n (omega arith))
+        ∙ ap (λ l. s.before ++ leaf ∷ l) (up_none n s.after rest.0)
+
     pub from_here : Has en key xs → from_on en key xs ≡ leaf ∷ s.after
-    from_here h =
-        let e = exact h in
-        ap (from_on en key) s.home.was ∙ from_append key s.before (leaf ∷ s.after)
-        ∙ ap (λ l. l ++ from_on en key (leaf ∷ s.after)) (from_none key s.before (weaker (λ y. (en y).at < (en leaf).at) (λ y. (en y).at < key) (λ y p. omega (arith, p, e)) s.before lower))
-        ∙ from_all key (leaf ∷ s.after) (omega (arith, e), weaker (λ y. key < (en y).at) (λ y. key ≤ (en y).at) (λ y p. omega (arith, p)) s.after higher)
+    from_here h = ap (λ k. from_on en k xs) (sym (exact h)) ∙ from_own
 
     first_rest : (hi : ℕ) → key ≤ hi → Has en key xs → left_of en key hi xs ≡ leaf ∷ up_to en hi s.after
     first_rest hi l h =
@@ -310,3 +322,72 @@ module _ {X : Type 0} (en : X → Entry) where
       most = subst (AllOf (λ y. (en y).at ≤ hi)) (sym (t.home.was ∙ ap (λ l. t.before ++ high ∷ l) (none_after t.after (sym t.is ∙ e))))
           (all_both (λ y. (en y).at ≤ hi) t.before (high ∷ [])
           (weaker (λ y. (en y).at < (en high).at) (λ y. (en y).at ≤ hi) (λ y k. omega (arith, k, q)) t.before (lower top xs r high m t)) (omega (arith, q), tt))
+
+  -- The leaves between those of two keys are left.
+  module _ (lo hi : ℕ) (xs : List X) (r : Rise en xs) (l : lo ≤ hi) (first last : X) (n m : Option ℕ)
+      (s : IsFrom en lo None xs first n) (t : IsFrom en hi None xs last m) where
+    order : (en first).at ≤ (en last).at
+    unfolding here
+    order = go s.before refl
+      where
+        go : (bs : List X) → s.before ≡ bs → (en first).at ≤ (en last).at
+        go (b ∷ bs) e =
+            has (λ y. (en y).at ≤ hi → (en y).at ≤ (en last).at) (en first).at xs (here lo xs r first n s) (nearest hi xs r last m t)
+            (let k = s.home.here.low (omega (arith, ap length e)) in omega (arith, k, l))
+        go [] e =
+            let w : xs ≡ first ∷ s.after = s.home.was ∙ ap (λ l. l ++ first ∷ s.after) e in
+            has (λ y. (en first).at ≤ (en y).at) (en last).at xs (here hi xs r last m t) (subst (AllOf (λ y. (en first).at ≤ (en y).at)) (sym w)
+            (omega arith, weaker (λ y. (en first).at < (en y).at) (λ y. (en first).at ≤ (en y).at) (λ y p. omega (arith, p)) s.after (rest lo xs r first n s).0))
+
+    abbrev these : List X
+    these = left_of en (en first).at (en last).at xs
+
+    up_parted : up_to en (en last).at xs ≡ s.before ++ these
+    up_parted =
+        let k = (en last).at in
+        ap (up_to en k) (s.home.was ∙ ap (λ l. s.before ++ l) (sym (from_own lo xs r first n s)))
+        ∙ up_append k s.before (from_on en (en first).at xs)
+        ∙ ap (λ l. l ++ these) (up_all k s.before
+        (weaker (λ y. (en y).at < (en first).at) (λ y. (en y).at ≤ k) (λ y p. omega (arith, p, order)) s.before (lower lo xs r first n s)))
+
+    to_last : s.before ++ these ≡ t.before ++ last ∷ []
+    to_last = sym up_parted ∙ up_own hi xs r last m t
+
+    are_between : AreBetween en lo hi xs these
+    are_between = record {
+      below = s.before;
+      first = first;
+      rest = s.after;
+      others = t.before;
+      last = last;
+      above = t.after;
+      low = s.home;
+      high = t.home;
+      some = omega (
+        arith,
+        ap length (ap (up_to en (en last).at) (from_own lo xs r first n s)
+            ∙ ap (λ b. kept b first (up_to en (en last).at s.after)) (le-leb (en first).at (en last).at order)),
+      );
+      from = append_cancel_left s.before (these ++ t.after) (first ∷ s.after)
+          (sym (append_assoc s.before these t.after) ∙ ap (λ l. l ++ t.after) to_last ∙ append_assoc t.before (last ∷ []) t.after
+          ∙ sym t.home.was ∙ s.home.was);
+      to = to_last;
+    }
+
+    pub between : (from to : ℕ) → from ≡ (en first).at → to ≡ (en last).at → IsBetween en lo hi xs from to
+    between from to e f = record {
+      walk = record {
+        rise = r;
+        low = λ _. subst (λ k. Has en k xs) (sym e) (here lo xs r first n s);
+        high = λ _. subst (λ k. Has en k xs) (sym f) (here hi xs r last m t);
+      };
+      some = λ _ _. rw (e, f) are_between;
+      none = λ h. absurd (omega (arith, h, l));
+      empty = λ z. absurd (omega (arith, z, ap length s.home.was, length-append s.before (first ∷ s.after)));
+    }
+
+  -- No leaf is left.
+  pub none_between : (lo hi : ℕ) (xs : List X) → Rise en xs → (lo ≤ hi → length xs ≡ 0) → IsBetween en lo hi xs 1 0
+  none_between lo hi xs r z =
+      let c = crossed 1 0 xs (omega arith) in
+      record { walk = done xs r; some = λ l s. absurd (omega (arith, z l, s)); none = λ _. c; empty = λ _. c }

@@ -1,7 +1,8 @@
 -- The leaves between two addresses.
-use Rattle.std.specs.Prelude.{◌≡◌, ℕ, ◌≤◌, ◌<◌, List, [], ◌∷◌, ◌++◌, Bool, true, false, nat_le}
+use Rattle.std.specs.Prelude.{◌≡◌, ℕ, ◌≤◌, ◌<◌, List, [], ◌∷◌, ◌++◌, length, Bool, true, false, nat_le}
 use Rattle.vm_tree.specs.Entry.{Entry}
 use Rattle.vm_tree.specs.Subtree.{AllOf}
+use Rattle.vm_tree.specs.Edits.{IsHome}
 
 -- With x, if the test is true.
 abbrev pub kept : {X : Type 0} → Bool → X → List X → List X
@@ -56,3 +57,24 @@ module _ {X : Type 0} (entry : X → Entry) where
   pub record IsWhole (xs : List X) (from to : ℕ) : Type 0 where
     pub walk : IsWalk from to xs
     pub is : left_of from to xs ≡ xs
+
+  -- The leaves m are those from the leaf of the key lo to the leaf of the key hi.
+  pub record AreBetween (lo hi : ℕ) (xs m : List X) : Type 0 where
+    pub below : List X
+    pub first : X
+    pub rest : List X
+    pub others : List X
+    pub last : X
+    pub above : List X
+    pub low : IsHome entry lo xs below first rest
+    pub high : IsHome entry hi xs others last above
+    pub some : 0 < length m
+    pub from : m ++ above ≡ first ∷ rest
+    pub to : below ++ m ≡ others ++ last ∷ []
+
+  -- The leaves that are left are those between two keys.
+  pub record IsBetween (lo hi : ℕ) (xs : List X) (from to : ℕ) : Type 0 where
+    pub walk : IsWalk from to xs
+    pub some : lo ≤ hi → 0 < length xs → AreBetween lo hi xs (left_of from to xs)
+    pub none : hi < lo → left_of from to xs ≡ []
+    pub empty : length xs ≡ 0 → left_of from to xs ≡ []

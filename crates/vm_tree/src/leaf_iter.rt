@@ -1,6 +1,6 @@
 //! The leaves of a tree, from both ends.
 ghost use Rattle.std.specs.Prelude.{◌≡◌, ◌<◌, ◌≤◌, ◌++◌, ◌∷◌, [], length, IfSome, IfNone};
-ghost use Rattle.vm_tree.specs.Between.{Rise, IsWalk, IsFirstLeft, IsLastLeft, IsWhole};
+ghost use Rattle.vm_tree.specs.Between.{Rise, IsWalk, IsFirstLeft, IsLastLeft, IsWhole, IsBetween, AreBetween};
 
 use crate::leaf::Leaf;
 use crate::tree::Tree;
@@ -63,6 +63,25 @@ fn whole<L: Leaf>(tree: &Tree<L>) -> (u64, u64)
             (first.at, last.at)
         }
     }
+}
+
+/// Returns the addresses of the leaves to which two keys belong, or 1 and 0 if no leaf is between them.
+fn ends_between<L: Leaf>(tree: &Tree<L>, low: u64, high: u64) -> (u64, u64)
+    requires rise { Rise L.entry tree.now.leaves }
+    ensures { IsBetween L.entry low high tree.now.leaves result.0 result.1 }
+{
+    if high < low {
+        return (1, 0);
+    }
+    let Some((lowest, _)) = tree.leaf_from(low) else {
+        return (1, 0);
+    };
+    let Some((highest, _)) = tree.leaf_from(high) else {
+        unreachable!()
+    };
+    let first = lowest.entry();
+    let last = highest.entry();
+    (first.at, last.at)
 }
 
 /// The leaves of a tree, from both ends.
@@ -135,6 +154,21 @@ impl<L: Leaf> Tree<L> {
         ensures { result ≡ self.now.leaves }
     {
         let (from, to) = whole(self);
+        LeafIter {
+            tree: self,
+            from,
+            to,
+        }
+    }
+    /// Returns the leaves from the one to which `low` belongs to the one to which `high` belongs, or none if `high` is
+    /// below `low`.
+    pub fn leaves_between(&self, low: u64, high: u64) -> LeafIter<'_, L>
+        requires rise { Rise L.entry self.now.leaves }
+        ensures some { low ≤ high → 0 < length self.now.leaves → AreBetween L.entry low high self.now.leaves result }
+        ensures none { high < low → result ≡ [] }
+        ensures empty { length self.now.leaves ≡ 0 → result ≡ [] }
+    {
+        let (from, to) = ends_between(self, low, high);
         LeafIter {
             tree: self,
             from,

@@ -7,7 +7,9 @@ use crate::proved::vm_devices as proved;
 use crate::rattle::Global;
 use crate::traits::{allocator, iterate, twins, DebugList};
 use crate::RangeInclusive;
-use crate::{AddressAllocator, AllocPolicy, Conflict, Constraint, IdAllocator, IdRequest, Result};
+use crate::{
+    AddressAllocator, AllocPolicy, Conflict, Constraint, IdAllocator, IdRequest, Result, Window,
+};
 use core::fmt;
 
 /// The resources of a device: an id and a range of addresses.
@@ -334,6 +336,26 @@ impl DeviceManager {
         Devices(self.0.devices())
     }
 
+    /// Returns an iterator over the devices whose ids are in a window, which is a range of `u32`, in ascending
+    /// order of ids. It begins in logarithmic time and does not allocate.
+    ///
+    /// # Example
+    ///
+    /// ```rust
+    /// use divsharun::{AllocPolicy, DeviceManager};
+    ///
+    /// let mut devices = DeviceManager::new(5, 23, 0xd000_0000, 0x2ec0_0000)?;
+    /// let net = devices.reserve(0x1000, 0x1000, AllocPolicy::FirstMatch)?;
+    /// let disk = devices.reserve(0x1000, 0x1000, AllocPolicy::FirstMatch)?;
+    /// assert!(devices.devices_in(net.id + 1..).eq([disk]));
+    /// # Ok::<(), divsharun::Error>(())
+    /// ```
+    #[must_use]
+    pub fn devices_in(&self, window: impl Window<u32>) -> DevicesIn<'_> {
+        let (first, last) = window.limits();
+        DevicesIn(self.0.devices_in(first, last))
+    }
+
     /// Returns the number of devices in constant time. It does not allocate.
     ///
     /// # Example
@@ -509,7 +531,14 @@ impl fmt::Debug for DeviceManager {
 #[derive(Clone)]
 pub struct Devices<'a>(proved::Devices<'a>);
 
-iterate!(Devices: DeviceSlot, |_devices, device| device.into());
+/// An iterator over the devices of a [`DeviceManager`] whose ids are in a window, in ascending order of ids or
+/// from both ends.
+///
+/// It is created by [`devices_in`](DeviceManager::devices_in).
+#[derive(Clone)]
+pub struct DevicesIn<'a>(proved::DevicesIn<'a>);
+
+iterate!(Devices, DevicesIn: DeviceSlot, |_devices, device| device.into());
 allocator!(DeviceManager, Devices of DeviceSlot, "the devices");
 
 impl ExactSizeIterator for Devices<'_> {}

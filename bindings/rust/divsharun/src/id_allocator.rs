@@ -2,7 +2,7 @@
 use crate::error::TryResult;
 use crate::proved::vm_ids as proved;
 use crate::rattle::Global;
-use crate::traits::{allocator, fused, twins, DebugList};
+use crate::traits::{allocator, fused, iterate, twins, DebugList};
 use crate::{Result, Window};
 use alloc::vec::Vec;
 use core::fmt;
@@ -371,6 +371,27 @@ impl IdAllocator {
         HeldIds(self.0.held_ids())
     }
 
+    /// Returns an iterator over the allocated ids in a window, which is a range of `u32`, in ascending order.
+    ///
+    /// It begins in logarithmic time, passes freed ids that follow each other in one step, and does not
+    /// allocate memory.
+    ///
+    /// # Example
+    ///
+    /// ```rust
+    /// use divsharun::IdAllocator;
+    ///
+    /// let lines = IdAllocator::with_held(5, 23, &[5, 8, 9])?;
+    /// assert!(lines.held_ids_in(6..).eq([8, 9]));
+    /// assert_eq!(lines.held_ids_in(..9).next_back(), Some(8));
+    /// # Ok::<(), divsharun::Error>(())
+    /// ```
+    #[must_use]
+    pub fn held_ids_in(&self, window: impl Window<u32>) -> HeldIdsIn<'_> {
+        let (first, last) = window.limits();
+        HeldIdsIn(self.0.held_ids_in(first, last))
+    }
+
     /// Returns a copy, or an error if memory runs out.
     ///
     /// # Errors
@@ -507,6 +528,13 @@ impl DoubleEndedIterator for HeldIds<'_> {
     }
 }
 
+/// An iterator over the allocated ids of an [`IdAllocator`] in a window, in ascending order or from both ends.
+///
+/// It is created by [`held_ids_in`](IdAllocator::held_ids_in).
+#[derive(Clone)]
+pub struct HeldIdsIn<'a>(proved::HeldIdsIn<'a>);
+
+iterate!(HeldIdsIn: u32, |_ids, id| id);
 fused!(HeldIds);
 allocator!(IdAllocator, HeldIds of u32, "the allocated ids");
 

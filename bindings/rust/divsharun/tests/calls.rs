@@ -10,9 +10,9 @@ mod model;
 
 use divsharun::{
     AddressAllocator, AllocPolicy, Block, Blocks, Conflict, Constraint, DeviceManager, DeviceSlot,
-    Devices, Error, Gaps, GapsIn, HeldIds, HeldRanges, HeldRangesIn, IdAllocator, IdRequest,
-    Layout, ListError, NodeState, ParseRangeError, RangeInclusive, RangeMap, TryError, ValueError,
-    ValuedRanges, ValuedRangesIn,
+    Devices, DevicesIn, Error, Gaps, GapsIn, HeldIds, HeldIdsIn, HeldRanges, HeldRangesIn,
+    IdAllocator, IdRequest, Layout, ListError, NodeState, ParseRangeError, RangeInclusive,
+    RangeMap, TryError, ValueError, ValuedRanges, ValuedRangesIn,
 };
 use draw::Draw;
 use items::{exact, expect_in_order, expect_items, inexact};
@@ -709,6 +709,50 @@ fn held_ids_are_taken_from_both_ends() {
     assert_eq!((items.nth(usize::MAX), items.next_back()), (None, None));
     let mut items = ids.held_ids();
     assert_eq!((items.nth_back(usize::MAX), items.next()), (None, None));
+}
+
+/// The ids 0 to 599, of which 3 to 6 of each 7 are held, and devices with the held ids.
+#[test]
+fn ids_and_devices_are_taken_from_windows() {
+    let held: Vec<u32> = (0..600).filter(|id| id % 7 > 2).collect();
+    let mut devices = DeviceManager::new(0, 599, 0, 600).unwrap();
+    for id in &held {
+        let exact = Constraint::new(1, 1, AllocPolicy::ExactMatch(u64::from(*id))).unwrap();
+        devices
+            .reserve_with_id(IdRequest::Exact(*id), exact)
+            .unwrap();
+    }
+    let draw = &mut Draw(5);
+    for first in (0..24).chain(590..602).chain([u32::MAX]) {
+        for last in [
+            first,
+            first + 1 - first.min(1),
+            first ^ 5,
+            300,
+            599,
+            600,
+            u32::MAX,
+        ] {
+            let want: Vec<_> = held
+                .iter()
+                .copied()
+                .filter(|id| (first..=last).contains(id))
+                .collect();
+            expect_items(
+                devices.ids().held_ids_in(first..=last),
+                &want,
+                inexact,
+                draw,
+            );
+            let slots: Vec<_> = want.iter().map(|id| devices.slot(*id).unwrap()).collect();
+            let found = devices.devices_in(first..=last);
+            assert!(found
+                .clone()
+                .map(|device| device.id)
+                .eq(want.iter().copied()));
+            expect_items(found.map(|device| device.range), &slots, inexact, draw);
+        }
+    }
 }
 
 #[test]
@@ -1682,6 +1726,8 @@ fn types_have_their_traits() {
     iterators::<HeldRangesIn<'_>>();
     iterators::<GapsIn<'_>>();
     iterators::<ValuedRangesIn<'_, String>>();
+    iterators::<HeldIdsIn<'_>>();
+    iterators::<DevicesIn<'_>>();
     fn counted<T: ExactSizeIterator + DoubleEndedIterator + FusedIterator + Clone + Debug>() {}
     counted::<HeldRanges<'_>>();
     counted::<Gaps<'_>>();

@@ -196,6 +196,9 @@ const OF_FREED_IDS: [Calls<IdAllocator>; 3] = [
         ids.is_allocated(at as u32)
             && !ids.is_allocated(at as u32 + 1)
             && has_ends(ids.held_ids(), is_counted)
+            && has_ends(ids.held_ids_in(at as u32..), |items| {
+                items.size_hint().0 < 9
+            })
     },
     |ids, at| {
         let at = at as u32;
@@ -249,7 +252,12 @@ const OF_DEVICES: [Calls<DeviceManager>; 8] = [
     |devices, at| devices.slot(at as u32).is_some() && devices.device_at(2 * at).is_some(),
     |devices, at| devices.device_count() > at && devices.conflict(exact(2 * at)).is_some(),
     |devices, at| devices.space().contains_address(at),
-    |devices, _| has_ends(devices.devices(), is_counted),
+    |devices, at| {
+        has_ends(devices.devices(), is_counted)
+            && has_ends(devices.devices_in(at as u32..), |items| {
+                items.size_hint().0 < 9
+            })
+    },
     |devices, _| {
         let reserved = [
             devices.reserve(1, 1, FirstMatch),

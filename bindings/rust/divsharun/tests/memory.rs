@@ -570,6 +570,7 @@ fn no_request_is_made() {
         };
         assert!(write!(&mut [0; 500][..], "{failure:^300}{exact:>100.9}").is_ok());
         assert!(devices.devices().rev().eq([]) && devices.device_at(9).is_none());
+        assert!(devices.devices_in(..).rev().eq([]));
         assert!(space.held_ranges_in(held[1]).rev().eq([held[1]]));
         assert!(space.gaps().rev().eq(three_gaps().into_iter().rev()));
         assert!(space.gaps_in(..16).eq([three_gaps()[0]]) && space.gaps_in(9..9).eq([]));
@@ -593,6 +594,7 @@ fn no_request_is_made() {
         assert_eq!((ids.allocate_id(), ids.peek_id()), (Ok(5), Ok(6)));
         assert!(ids.is_allocated(5) && ids.held_count() == 1);
         assert!(ids.held_ids().rev().eq([5]) && ids.free_count() == 1);
+        assert!(ids.held_ids_in(5..).rev().eq([5]));
         assert_eq!(ids.free_id(6), Err(Error::NeverAllocated(6)));
         assert_eq!(ids.allocate_exact(7), Err(Error::OutOfRange(7)));
         assert_eq!(ids.allocate_exact(6), Ok(6));

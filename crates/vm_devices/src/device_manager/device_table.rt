@@ -1,7 +1,8 @@
 //! The table of the devices. It finds a range by its id, and an id by the start of its range.
-ghost use Rattle.std.specs.Prelude.{◌≡◌, ◌≢◌, ◌↔◌, ℕ, None, Some, length, map as map_list, IfOk, IfSome, OnOk, OnErr};
+ghost use Rattle.std.specs.Prelude.{◌≡◌, ◌≢◌, ◌↔◌, ℕ, None, Some, length, map as map_list, IfOk, IfSome, OnOk, OnErr, nat_le, ◌&&◌};
 ghost use Rattle.std.specs.Iterator.{YieldsFirst, YieldsLast, UpTo, at_most, item_count};
 ghost use Rattle.std.specs.Iterator.SizeHint.{IsWithinCount};
+ghost use Rattle.std.specs.List.{filter};
 ghost use Rattle.std.specs.FinMap as map;
 ghost use Rattle.vm_devices.specs.Checks.{StartsAt, IsOnlyStart};
 ghost use Rattle.vm_devices.specs.Queries.{device_of};
@@ -89,9 +90,21 @@ impl DeviceTable {
         requires { count ≡ map.len self.now }
         ensures { result ≡ map_list device_of (map.entries self.now) }
     {
-        Devices {
+        let devices = DevicesIn {
             slots: self.slots.iter(),
+        };
+        Devices {
+            devices,
             left: count as usize,
+        }
+    }
+
+    /// Returns an iterator over the devices with ids from `first` to `last`, by ascending ids.
+    pub(super) fn iter_in(&self, first: u32, last: u32) -> DevicesIn<'_>
+        ensures { result ≡ filter (λ d. nat_le first d.id && nat_le d.id last) (map_list device_of (map.entries self.now)) }
+    {
+        DevicesIn {
+            slots: self.slots.iter_between(first.into(), last.into()),
         }
     }
 
@@ -168,12 +181,51 @@ impl DeviceTable {
     }
 }
 
+/// An iterator over the devices with ids from an id to an id, by ascending ids, or backwards. It does not allocate.
+///
+/// Its model is the list of the devices that it has not returned yet.
+#[derive(Clone, Drop)]
+pub struct DevicesIn<'a> {
+    slots: Iter<'a, DeviceSlot>,
+}
+
+impl<'a> Model for DevicesIn<'a> {
+    ghost use Rattle.std.specs.Prelude.{List};
+    ghost use Rattle.vm_devices.specs.declared.device_slot.DeviceSlot.{DeviceSlot};
+
+    ghost Value = { List DeviceSlot };
+
+    ghost view = { λ d. d.slots };
+}
+
+impl<'a> Iterator for DevicesIn<'a> {
+    type Item = DeviceSlot;
+
+    ghost next_gives = { YieldsFirst (λ d. d) };
+
+    ghost remaining = { item_count (λ d. d) };
+
+    /// Returns the device with the lowest id that is left.
+    fn next(&mut self) -> Option<DeviceSlot> {
+        self.slots.next().copied()
+    }
+}
+
+impl<'a> DoubleEndedIterator for DevicesIn<'a> {
+    ghost next_back_gives = { YieldsLast (λ d. d) };
+
+    /// Returns the device with the highest id that is left.
+    fn next_back(&mut self) -> Option<DeviceSlot> {
+        self.slots.next_back().copied()
+    }
+}
+
 /// An iterator over the devices, by ascending ids, or backwards. It does not allocate.
 ///
 /// Its model is the list of the devices that it has not returned yet.
 #[derive(Clone, Drop)]
 pub struct Devices<'a> {
-    slots: Iter<'a, DeviceSlot>,
+    devices: DevicesIn<'a>,
     // The number of devices that were not returned.
     left: usize,
 }
@@ -184,9 +236,9 @@ impl<'a> Model for Devices<'a> {
 
     ghost Value = { List DeviceSlot };
 
-    ghost view = { λ d. d.slots };
+    ghost view = { λ d. d.devices };
 
-    ghost invariant = { λ d. d.left ≡ length d.slots };
+    ghost invariant = { λ d. d.left ≡ length d.devices };
 }
 
 impl<'a> Iterator for Devices<'a> {
@@ -198,9 +250,9 @@ impl<'a> Iterator for Devices<'a> {
 
     /// Returns the device with the lowest id that is left.
     fn next(&mut self) -> Option<DeviceSlot> {
-        let device = self.slots.next()?;
+        let device = self.devices.next()?;
         self.left -= 1;
-        Some(*device)
+        Some(device)
     }
 
     /// Returns the number of devices that are left, as both bounds.
@@ -218,9 +270,9 @@ impl<'a> DoubleEndedIterator for Devices<'a> {
 
     /// Returns the device with the highest id that is left.
     fn next_back(&mut self) -> Option<DeviceSlot> {
-        let device = self.slots.next_back()?;
+        let device = self.devices.next_back()?;
         self.left -= 1;
-        Some(*device)
+        Some(device)
     }
 }
 

@@ -2,10 +2,10 @@
 //! allocators.
 ghost use Rattle.std.specs.Prelude.{◌≡◌};
 ghost use Rattle.vm_devices.specs.Manager.{device_state};
-ghost use Rattle.vm_devices.specs.Queries.{device_list, device_count, DeviceAt};
+ghost use Rattle.vm_devices.specs.Queries.{device_list, device_list_in, device_count, DeviceAt};
 
 use super::DeviceManager;
-use super::device_table::Devices;
+use super::device_table::{Devices, DevicesIn};
 use crate::device_slot::DeviceSlot;
 use vm_addresses::AddressAllocator;
 use vm_ids::IdAllocator;
@@ -18,6 +18,15 @@ impl DeviceManager {
         ensures { result ≡ device_list (device_state self.now) }
     {
         self.slots.iter(self.device_count())
+    }
+
+    /// Returns an iterator over the devices with ids from `first` to `last`, both included, by ascending ids.
+    ///
+    /// It descends one path of a tree for each end, and does not allocate.
+    pub fn devices_in(&self, first: u32, last: u32) -> DevicesIn<'_>
+        ensures { result ≡ device_list_in first last (device_state self.now) }
+    {
+        self.slots.iter_in(first, last)
     }
 
     /// Returns the number of devices.

@@ -1,5 +1,5 @@
 -- The walk over the held ids, and a part of equality. Only private functions and the iterator cite them.
-use Rattle.std.specs.Prelude.{◌≡◌, ℕ, ◌+◌, ◌-◌, ◌^◌, ◌<◌, ◌≤◌, min, max, not, List, [], ◌∷◌, ◌++◌, length, Option, Some, None, IfSome, option_to_list}
+use Rattle.std.specs.Prelude.{◌≡◌, ℕ, ◌+◌, ◌-◌, ◌^◌, ◌<◌, ◌≤◌, min, max, not, List, [], ◌∷◌, ◌++◌, Option, Some, None, IfSome, option_to_list}
 use Rattle.std.specs.List.{All, filter, flat_map, list_any, range_with_len}
 use Rattle.std.specs.Ordering.{nat_cmp, eq_by_cmp}
 use Rattle.vm_list.specs.Runs.{ids_of_run}
@@ -59,13 +59,12 @@ AscendWithin lowest bound [] = Unit {0}
 AscendWithin lowest bound (n ∷ ns) = (lowest ≤ n) × (n < bound) × AscendWithin (n + 1) bound ns
 
 -- The fields of the walk are valid. Both lists of freed ids ascend, and have the same ones of the ids that were not
--- visited. The number of ids that are left is right.
-pub record AreIdsLeft (next bound : ℕ) (above below : List ℕ) (left : ℕ) : Type 0 where
+-- visited.
+pub record AreIdsLeft (next bound : ℕ) (above below : List ℕ) : Type 0 where
   pub ids : bound ≤ 2 ^ 32
   pub from_next : AscendWithin next (2 ^ 32) above
   pub to_bound : AscendWithin 0 bound below
   pub same : (i : ℕ) → next ≤ i → i < bound → list_any (eq_by_cmp nat_cmp i) above ≡ list_any (eq_by_cmp nat_cmp i) below
-  pub counted : left ≡ length (ids_left next bound above)
 
 -- The states have the same range and the same bound.
 pub record HaveSameBounds (a b : IdState) : Type 0 where

@@ -9,7 +9,7 @@ ghost use Rattle.std.specs.Iterator.{YieldsFirst, YieldsLast, item_count};
 ghost use Rattle.vm_ids.specs.Ids.{freed_ids};
 
 use super::IdAllocator;
-use super::held_ids::{last_run, next_run};
+use super::held_ids_in::{last_run, next_run};
 use std::marker::Model;
 use vm_list::{Iter, Run};
 

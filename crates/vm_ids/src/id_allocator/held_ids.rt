@@ -1,46 +1,31 @@
-//! The allocated ids, as an iterator from both ends.
-//!
-//! It walks over the ids that were allocated at some time, and passes the runs of freed ids. Each end
-//! has its own iterator over the runs, so the ends share nothing but the bounds.
+//! All allocated ids, as an iterator from both ends.
 ghost use Rattle.std.specs.Prelude.{◌≡◌, ◌-◌, length, take, drop};
 ghost use Rattle.std.specs.Iterator.{YieldsFirst, YieldsLast, item_count};
-ghost use Rattle.vm_ids.specs.Checks.IdQueries.{held_end, held_start};
 ghost use Rattle.vm_ids.specs.Ids.{held_ids};
 
-use super::{IdAllocator, bound_of};
+use super::IdAllocator;
+use super::held_ids_in::HeldIdsIn;
 use std::marker::Model;
-use vm_list::{Iter, Run};
 
-/// An iterator over the allocated ids, from the lowest to the highest, or backwards. It does not
-/// allocate.
+/// An iterator over the allocated ids, from the lowest to the highest, or backwards. Its length is exact, and it does
+/// not allocate.
 ///
 /// Its model is the list of the ids that it has not returned yet.
 #[derive(Clone, Drop)]
 pub struct HeldIds<'a> {
-    // The lowest id that was not visited, and the bound of those that were not visited.
-    next: u64,
-    bound: u64,
-    // The lowest run of freed ids that was not passed, and the runs above it.
-    next_freed: Option<Run>,
-    freed_above: Iter<'a, Run>,
-    // The highest run of freed ids that was not passed, and the runs below it.
-    last_freed: Option<Run>,
-    freed_below: Iter<'a, Run>,
+    ids: HeldIdsIn<'a>,
     // The number of ids that were not returned.
     left: u64,
 }
 
 impl<'a> Model for HeldIds<'a> {
-    ghost use Rattle.std.specs.Prelude.{ℕ, List};
-    ghost use Rattle.vm_ids.specs.Checks.IdQueries.{freed_from, freed_to, ids_left, AreIdsLeft, AreFilled};
+    ghost use Rattle.std.specs.Prelude.{◌≡◌, ℕ, List, length};
 
     ghost Value = { List ℕ };
 
-    ghost view = { λ h. ids_left h.next h.bound (freed_from h.next_freed h.freed_above) };
+    ghost view = { λ h. h.ids };
 
-    ghost invariant = { λ h.
-        AreIdsLeft h.next h.bound (freed_from h.next_freed h.freed_above) (freed_to h.freed_below h.last_freed) h.left
-        × AreFilled h.next_freed h.freed_above × AreFilled h.last_freed h.freed_below };
+    ghost invariant = { λ h. h.left ≡ length h.ids };
 }
 
 impl<'a> HeldIds<'a> {
@@ -54,83 +39,21 @@ impl<'a> HeldIds<'a> {
     /// Passes the `count` lowest ids that are left, or all of them if fewer are left.
     ///
     /// It takes one step for each run of freed ids that it passes, however many ids are between them.
-    #[tactic(auto, using(crate::proofs::Ids::HeldIds::walks))]
     pub fn advance_by(&mut self, count: u64)
         ensures { self.new ≡ drop count self.old }
     {
-        let mut rest = count;
-        while rest > 0 && self.next < self.bound {
-            match self.next_freed {
-                Some(run) if u64::from(run.first) <= self.next => {
-                    self.next = u64::from(run.last) + 1;
-                    self.next_freed = next_run(&mut self.freed_above);
-                }
-                _ => {
-                    let step = rest.min(held_end(self.bound, self.next_freed) - self.next);
-                    self.next += step;
-                    self.left -= step;
-                    rest -= step;
-                }
-            }
-        }
+        self.ids.advance_by(count);
+        self.left -= self.left.min(count);
     }
 
     /// Passes the `count` highest ids that are left, or all of them if fewer are left.
     ///
     /// It takes one step for each run of freed ids that it passes, however many ids are between them.
-    #[tactic(auto, using(crate::proofs::Ids::HeldIds::walks))]
     pub fn advance_back_by(&mut self, count: u64)
         ensures { self.new ≡ take (length self.old - count) self.old }
     {
-        let mut rest = count;
-        while rest > 0 && self.next < self.bound {
-            match self.last_freed {
-                Some(run) if self.bound <= u64::from(run.last) + 1 => {
-                    self.bound = run.first.into();
-                    self.last_freed = last_run(&mut self.freed_below);
-                }
-                _ => {
-                    let step = rest.min(self.bound - held_start(self.next, self.last_freed));
-                    self.bound -= step;
-                    self.left -= step;
-                    rest -= step;
-                }
-            }
-        }
-    }
-}
-
-/// Takes the lowest run that is left.
-pub(super) fn next_run(runs: &mut Iter<'_, Run>) -> Option<Run>
-    ensures { YieldsFirst (λ r. r) runs.old result runs.new }
-{
-    runs.next().copied()
-}
-
-/// Takes the highest run that is left.
-pub(super) fn last_run(runs: &mut Iter<'_, Run>) -> Option<Run>
-    ensures { YieldsLast (λ r. r) runs.old result runs.new }
-{
-    runs.next_back().copied()
-}
-
-/// Returns where the allocated ids below the next run of freed ids end.
-fn held_end(bound: u64, freed: Option<Run>) -> u64
-    ensures { result ≡ held_end bound freed }
-{
-    match freed {
-        Some(run) => bound.min(run.first.into()),
-        None => bound,
-    }
-}
-
-/// Returns where the allocated ids above the last run of freed ids start.
-fn held_start(next: u64, freed: Option<Run>) -> u64
-    ensures { result ≡ held_start next freed }
-{
-    match freed {
-        Some(run) => next.max(u64::from(run.last) + 1),
-        None => next,
+        self.ids.advance_back_by(count);
+        self.left -= self.left.min(count);
     }
 }
 
@@ -142,23 +65,10 @@ impl<'a> Iterator for HeldIds<'a> {
     ghost remaining = { item_count (λ h. h) };
 
     /// Returns the lowest allocated id that is left.
-    #[tactic(auto, using(crate::proofs::Ids::HeldIds::walks))]
     fn next(&mut self) -> Option<u32> {
-        while self.next < self.bound {
-            match self.next_freed {
-                Some(run) if u64::from(run.first) <= self.next => {
-                    self.next = u64::from(run.last) + 1;
-                    self.next_freed = next_run(&mut self.freed_above);
-                }
-                _ => {
-                    let id = self.next as u32;
-                    self.next += 1;
-                    self.left -= 1;
-                    return Some(id);
-                }
-            }
-        }
-        None
+        let id = self.ids.next()?;
+        self.left -= 1;
+        Some(id)
     }
 }
 
@@ -166,22 +76,10 @@ impl<'a> DoubleEndedIterator for HeldIds<'a> {
     ghost next_back_gives = { YieldsLast (λ h. h) };
 
     /// Returns the highest allocated id that is left.
-    #[tactic(auto, using(crate::proofs::Ids::HeldIds::walks))]
     fn next_back(&mut self) -> Option<u32> {
-        while self.next < self.bound {
-            match self.last_freed {
-                Some(run) if self.bound <= u64::from(run.last) + 1 => {
-                    self.bound = run.first.into();
-                    self.last_freed = last_run(&mut self.freed_below);
-                }
-                _ => {
-                    self.bound -= 1;
-                    self.left -= 1;
-                    return Some(self.bound as u32);
-                }
-            }
-        }
-        None
+        let id = self.ids.next_back()?;
+        self.left -= 1;
+        Some(id)
     }
 }
 
@@ -189,21 +87,11 @@ impl IdAllocator {
     /// Returns an iterator over the allocated ids, from the lowest to the highest.
     ///
     /// It passes a run of freed ids in one step, and does not allocate memory.
-    #[tactic(auto, using(crate::proofs::Ids::HeldIds::lists))]
     pub fn held_ids(&self) -> HeldIds<'_>
         ensures { result ≡ held_ids self.now }
     {
-        let mut freed_above = self.freed_ids.runs();
-        let next_freed = next_run(&mut freed_above);
-        let mut freed_below = self.freed_ids.runs();
-        let last_freed = last_run(&mut freed_below);
         HeldIds {
-            next: u64::from(self.range_base),
-            bound: bound_of(self.next_id, self.range_end),
-            next_freed,
-            freed_above,
-            last_freed,
-            freed_below,
+            ids: self.held_ids_in(self.range_base, self.range_end),
             left: self.held_count(),
         }
     }

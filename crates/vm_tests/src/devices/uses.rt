@@ -3,7 +3,7 @@ ghost use Rattle.std.specs.Prelude.{◌≡◌, ◌⊎◌, false, IfErr, IfOk};
 ghost use Rattle.serde_json.specs.View.{view};
 ghost use Rattle.vm_devices.specs.Devices.{MovesDevice};
 ghost use Rattle.vm_devices.specs.Manager.{device_state, made_manager};
-ghost use Rattle.vm_devices.specs.Queries.{DeviceAt};
+ghost use Rattle.vm_devices.specs.Queries.{DeviceAt, device_list_in};
 ghost use Rattle.vm_devices.specs.Saved.{EncodesManager, ReadsInParts};
 
 use super::made;
@@ -14,7 +14,7 @@ use serde_json::Value;
 use std::alloc::Global;
 use std::process::Abort;
 use vm_allocator::{AllocPolicy, Constraint, Error, IdRequest, RangeInclusive, Result, ValueError};
-use vm_devices::{DeviceManager, DeviceSlot};
+use vm_devices::{DeviceManager, DeviceSlot, DevicesIn};
 
 /// Plugs a device in with an id. An error leaves the same manager, or memory ran out.
 fn plug(
@@ -42,6 +42,13 @@ fn owner(devices: &DeviceManager, address: u64) -> Option<DeviceSlot>
     ensures { DeviceAt (device_state devices.now) address result }
 {
     devices.device_at(address)
+}
+
+/// Returns the devices with ids from `first` to `last`.
+fn between(devices: &DeviceManager, first: u32, last: u32) -> DevicesIn<'_>
+    ensures { result ≡ device_list_in first last (device_state devices.now) }
+{
+    devices.devices_in(first, last)
 }
 
 /// Moves the range of a device.
@@ -83,6 +90,8 @@ fn use_device(rt: &(impl Abort + AllocGlobal), devices: &mut DeviceManager) {
     let slot = plug(rt.alloc(), devices, 7, request).expect(rt, ENOUGH);
     expect_true(rt, owner(devices, 0xE000_0FFF) == Some(slot), &slot);
     expect_true(rt, !plugged(rt.alloc(), devices, 0x2000), "no room");
+    let found = between(devices, 6, 8).next();
+    expect_true(rt, found == Some(slot), &found);
     let stays = moved(rt.alloc(), devices, 7, request);
     expect_true(rt, stays == Ok(slot.range), &stays);
 }

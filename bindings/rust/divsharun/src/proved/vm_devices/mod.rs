@@ -5,5 +5,5 @@
 mod device_manager;
 mod device_slot;
 
-pub use device_manager::{DeviceManager, Devices, ReadDevices, SAVED_VERSION};
+pub use device_manager::{DeviceManager, Devices, DevicesIn, ReadDevices, SAVED_VERSION};
 pub use device_slot::DeviceSlot;

@@ -13,12 +13,14 @@ mod comparing;
 mod exact;
 mod freed_ids;
 mod held_ids;
+mod held_ids_in;
 mod peek;
 mod several;
 mod with_held;
 
 pub use freed_ids::FreedIds;
 pub use held_ids::HeldIds;
+pub use held_ids_in::HeldIdsIn;
 
 /// Allocates ids from a range, the lowest free id first.
 ///

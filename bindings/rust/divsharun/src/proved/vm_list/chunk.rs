@@ -148,6 +148,14 @@ impl<E: Keyed> Chunk<E> {
         Some(&self.entries[at - 1])
     }
 
+    /// Returns the entries with keys from `low` to `high`.
+    pub(in crate::proved) fn between(&self, low: u64, high: u64) -> &[E] {
+        let entries = self.entries.as_slice();
+        let end = place_from(entries, low);
+        let start = place(entries, high).min(end);
+        &entries[start..end]
+    }
+
     /// Returns the entry with the highest key below this one, if there is one.
     pub(in crate::proved) fn highest_below(&self, key: u64) -> Option<&E> {
         let at = place_from(self.entries.as_slice(), key);

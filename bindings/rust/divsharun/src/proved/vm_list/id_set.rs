@@ -75,6 +75,41 @@ impl IdSet {
         self.runs.iter()
     }
 
+    /// Returns the lowest run of the ids from `first` on, and an iterator over the other runs of these ids. It descends
+    /// one path of the tree for each end, and does not allocate.
+    pub(in crate::proved) fn runs_from(&self, first: u32) -> (Option<Run>, Iter<'_, Run>) {
+        let mut runs = self.runs.iter_between(first.into(), u64::MAX);
+        match lowest_run(&mut runs) {
+            Some(run) => {
+                let cut = Run {
+                    first: run.first.max(first),
+                    last: run.last,
+                };
+                (Some(cut), runs)
+            }
+            None => (None, runs),
+        }
+    }
+
+    /// Returns the highest run of the ids up to `last`, and an iterator over the other runs of these ids. It descends
+    /// one path of the tree for each end, and does not allocate.
+    pub(in crate::proved) fn runs_to(&self, last: u32) -> (Iter<'_, Run>, Option<Run>) {
+        let mut runs = self.runs.iter_between(0, last.into());
+        match run_from(&self.runs, last) {
+            Some(run) if run.first <= last && last < run.last => {
+                let cut = Run {
+                    first: run.first,
+                    last,
+                };
+                (runs, Some(cut))
+            }
+            _ => {
+                let highest = highest_run(&mut runs);
+                (runs, highest)
+            }
+        }
+    }
+
     /// Returns `true` if both sets have the same ids. It stops at the first difference, and does not allocate.
     pub(in crate::proved) fn equals(&self, other: &Self) -> bool {
         self.count == other.count && same_runs(self.runs.iter(), other.runs.iter())
@@ -113,6 +148,16 @@ impl IdSet {
         self.count += u64::from(last) + 1 - u64::from(first);
         Ok(())
     }
+}
+
+/// Takes the lowest run that is left.
+fn lowest_run(runs: &mut Iter<'_, Run>) -> Option<Run> {
+    runs.next().copied()
+}
+
+/// Takes the highest run that is left.
+fn highest_run(runs: &mut Iter<'_, Run>) -> Option<Run> {
+    runs.next_back().copied()
 }
 
 /// Returns the lowest run that ends at an id or above it, if there is one.

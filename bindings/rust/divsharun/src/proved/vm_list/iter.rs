@@ -60,6 +60,19 @@ impl<'a, E: Keyed> Iter<'a, E> {
         }
     }
 
+    /// Returns an iterator over some entries of two leaves, and those of the leaves between them.
+    pub(in crate::proved::vm_list) fn within(
+        lowest: &'a [E],
+        leaves: LeafIter<'a, Chunk<E>>,
+        highest: &'a [E],
+    ) -> Iter<'a, E> {
+        Iter {
+            leaves,
+            lowest,
+            highest,
+        }
+    }
+
     /// Returns an iterator over the entries of these leaves.
     pub(in crate::proved::vm_list) fn of_leaves(leaves: LeafIter<'a, Chunk<E>>) -> Iter<'a, E> {
         Iter {

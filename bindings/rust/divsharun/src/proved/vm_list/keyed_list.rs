@@ -153,6 +153,21 @@ impl<E: Keyed> KeyedList<E> {
         self.tree.facts();
         iter_of(self.tree.leaves())
     }
+
+    /// Returns an iterator over the entries with keys from `low` to `high`, in ascending order of their keys. It
+    /// descends one path of the tree for each of these keys, and does not allocate.
+    pub(in crate::proved) fn iter_between(&self, low: u64, high: u64) -> Iter<'_, E> {
+        self.tree.facts();
+        let mut leaves = self.tree.leaves_between(low, high);
+        let Some(first) = leaves.next_leaf() else {
+            return Iter::of_leaves(leaves);
+        };
+        let lowest = first.between(low, high);
+        match leaves.last_leaf() {
+            Some(last) => Iter::within(lowest, leaves, last.between(low, high)),
+            None => Iter::within(lowest, leaves, &[]),
+        }
+    }
 }
 
 impl<E: Keyed + Copy> KeyedList<E> {

@@ -53,6 +53,22 @@ fn whole<L: Leaf>(tree: &Tree<L>) -> (u64, u64) {
     }
 }
 
+/// Returns the addresses of the leaves to which two keys belong, or 1 and 0 if no leaf is between them.
+fn ends_between<L: Leaf>(tree: &Tree<L>, low: u64, high: u64) -> (u64, u64) {
+    if high < low {
+        return (1, 0);
+    }
+    let Some((lowest, _)) = tree.leaf_from(low) else {
+        return (1, 0);
+    };
+    let Some((highest, _)) = tree.leaf_from(high) else {
+        unreachable!()
+    };
+    let first = lowest.entry();
+    let last = highest.entry();
+    (first.at, last.at)
+}
+
 /// The leaves of a tree, from both ends.
 ///
 /// Its model is the list of the leaves that it has not returned yet.
@@ -100,6 +116,16 @@ impl<L: Leaf> Tree<L> {
     /// Returns the leaves of this tree.
     pub(in crate::proved) fn leaves(&self) -> LeafIter<'_, L> {
         let (from, to) = whole(self);
+        LeafIter {
+            tree: self,
+            from,
+            to,
+        }
+    }
+    /// Returns the leaves from the one to which `low` belongs to the one to which `high` belongs, or none if `high` is
+    /// below `low`.
+    pub(in crate::proved) fn leaves_between(&self, low: u64, high: u64) -> LeafIter<'_, L> {
+        let (from, to) = ends_between(self, low, high);
         LeafIter {
             tree: self,
             from,

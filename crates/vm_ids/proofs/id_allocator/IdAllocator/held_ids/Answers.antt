@@ -1,13 +1,17 @@
--- At the start all held ids are left, between the first and the last freed run. The prover does not build the invariant of its parts.
-use Rattle.vm_ids.proofs.Ids.HeldIds.{first_taken, last_taken, first_filled, last_filled, walk_starts}
+use Rattle.std.proofs.Common.{◌∙◌, ap, sym, length}
+use Rattle.vm_ids.specs.Ids.{IdState, ids_of, held_ids_in}
+use Rattle.vm_ids.proofs.Ids.HeldIds.{all_held, held_ids_counted}
 use Rattle.vm_ids.proofs.id_allocator.IdAllocator.held_ids.Goals as goal
+
+pub returns : goal.returns
+unfolding ids_of
+returns c =
+    let lo = ap (λ (s : IdState). s.lo) c.self.view_is in
+    let hi = ap (λ (s : IdState). s.hi) c.self.view_is in
+    c.held_ids_in.ensures
+    ∙ ap (λ k. held_ids_in k c.self.inside.range_end c.args.self.now) lo ∙ ap (λ k. held_ids_in c.args.self.now.lo k c.args.self.now) hi
+    ∙ all_held c.args.self.now c.held_count.ensures.state
 
 pub invariant_of-result : goal.invariant_of-result
 invariant_of-result c =
-    let above = first_taken _ _ _ c.next_run-next_freed.result c.next_run-next_freed.ensures c.runs-freed_above.ensures.ids in
-    let below = last_taken _ _ _ c.last_run-last_freed.result c.last_run-last_freed.ensures c.runs-freed_below.ensures.ids in
-    rw (c.from.ensures, c.bound_of.ensures, c.held_count.ensures.value) (
-      walk_starts _ _ _ _ _ _ _ c.self.view_is c.self.invariant c.runs-freed_above.ensures.order c.held_count.ensures.state above below,
-      first_filled _ _ _ c.runs-freed_above.ensures.filled c.next_run-next_freed.ensures,
-      last_filled _ _ _ c.runs-freed_below.ensures.filled c.last_run-last_freed.ensures,
-    )
+    c.held_count.ensures.value ∙ sym (held_ids_counted c.args.self.now c.held_count.ensures.state) ∙ sym (ap length (returns c))

@@ -54,9 +54,19 @@ impl DeviceTable {
 
     /// Returns an iterator over the devices, by ascending ids. `count` is their number.
     pub(super) fn iter(&self, count: u64) -> Devices<'_> {
-        Devices {
+        let devices = DevicesIn {
             slots: self.slots.iter(),
+        };
+        Devices {
+            devices,
             left: count as usize,
+        }
+    }
+
+    /// Returns an iterator over the devices with ids from `first` to `last`, by ascending ids.
+    pub(super) fn iter_in(&self, first: u32, last: u32) -> DevicesIn<'_> {
+        DevicesIn {
+            slots: self.slots.iter_between(first.into(), last.into()),
         }
     }
 
@@ -113,12 +123,36 @@ impl DeviceTable {
     }
 }
 
+/// An iterator over the devices with ids from an id to an id, by ascending ids, or backwards. It does not allocate.
+///
+/// Its model is the list of the devices that it has not returned yet.
+#[derive(Clone)]
+pub struct DevicesIn<'a> {
+    slots: Iter<'a, DeviceSlot>,
+}
+
+impl<'a> Iterator for DevicesIn<'a> {
+    type Item = DeviceSlot;
+
+    /// Returns the device with the lowest id that is left.
+    fn next(&mut self) -> Option<DeviceSlot> {
+        self.slots.next().copied()
+    }
+}
+
+impl<'a> DoubleEndedIterator for DevicesIn<'a> {
+    /// Returns the device with the highest id that is left.
+    fn next_back(&mut self) -> Option<DeviceSlot> {
+        self.slots.next_back().copied()
+    }
+}
+
 /// An iterator over the devices, by ascending ids, or backwards. It does not allocate.
 ///
 /// Its model is the list of the devices that it has not returned yet.
 #[derive(Clone)]
 pub struct Devices<'a> {
-    slots: Iter<'a, DeviceSlot>,
+    devices: DevicesIn<'a>,
     // The number of devices that were not returned.
     left: usize,
 }
@@ -128,9 +162,9 @@ impl<'a> Iterator for Devices<'a> {
 
     /// Returns the device with the lowest id that is left.
     fn next(&mut self) -> Option<DeviceSlot> {
-        let device = self.slots.next()?;
+        let device = self.devices.next()?;
         self.left -= 1;
-        Some(*device)
+        Some(device)
     }
 
     /// Returns the number of devices that are left, as both bounds.
@@ -142,9 +176,9 @@ impl<'a> Iterator for Devices<'a> {
 impl<'a> DoubleEndedIterator for Devices<'a> {
     /// Returns the device with the highest id that is left.
     fn next_back(&mut self) -> Option<DeviceSlot> {
-        let device = self.slots.next_back()?;
+        let device = self.devices.next_back()?;
         self.left -= 1;
-        Some(*device)
+        Some(device)
     }
 }
 

@@ -3,7 +3,7 @@
 //! Queries of the devices: an iterator, their number, the device at an address, and both
 //! allocators.
 
-use super::device_table::Devices;
+use super::device_table::{Devices, DevicesIn};
 use super::DeviceManager;
 use crate::proved::vm_addresses::AddressAllocator;
 use crate::proved::vm_devices::device_slot::DeviceSlot;
@@ -15,6 +15,13 @@ impl DeviceManager {
     /// It does not allocate.
     pub fn devices(&self) -> Devices<'_> {
         self.slots.iter(self.device_count())
+    }
+
+    /// Returns an iterator over the devices with ids from `first` to `last`, both included, by ascending ids.
+    ///
+    /// It descends one path of a tree for each end, and does not allocate.
+    pub fn devices_in(&self, first: u32, last: u32) -> DevicesIn<'_> {
+        self.slots.iter_in(first, last)
     }
 
     /// Returns the number of devices.

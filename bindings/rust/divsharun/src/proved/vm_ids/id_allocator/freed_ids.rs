@@ -4,7 +4,7 @@
 //!
 //! It walks over the runs of the freed ids, and visits no other ids.
 
-use super::held_ids::{last_run, next_run};
+use super::held_ids_in::{last_run, next_run};
 use super::IdAllocator;
 use crate::proved::vm_list::{Iter, Run};
 

@@ -1,28 +1,17 @@
 // Written by bindings/erase from crates/vm_ids/src/id_allocator/held_ids.rt: do not edit.
 
-//! The allocated ids, as an iterator from both ends.
-//!
-//! It walks over the ids that were allocated at some time, and passes the runs of freed ids. Each end
-//! has its own iterator over the runs, so the ends share nothing but the bounds.
+//! All allocated ids, as an iterator from both ends.
 
-use super::{bound_of, IdAllocator};
-use crate::proved::vm_list::{Iter, Run};
+use super::held_ids_in::HeldIdsIn;
+use super::IdAllocator;
 
-/// An iterator over the allocated ids, from the lowest to the highest, or backwards. It does not
-/// allocate.
+/// An iterator over the allocated ids, from the lowest to the highest, or backwards. Its length is exact, and it does
+/// not allocate.
 ///
 /// Its model is the list of the ids that it has not returned yet.
 #[derive(Clone)]
 pub struct HeldIds<'a> {
-    // The lowest id that was not visited, and the bound of those that were not visited.
-    next: u64,
-    bound: u64,
-    // The lowest run of freed ids that was not passed, and the runs above it.
-    next_freed: Option<Run>,
-    freed_above: Iter<'a, Run>,
-    // The highest run of freed ids that was not passed, and the runs below it.
-    last_freed: Option<Run>,
-    freed_below: Iter<'a, Run>,
+    ids: HeldIdsIn<'a>,
     // The number of ids that were not returned.
     left: u64,
 }
@@ -37,68 +26,16 @@ impl<'a> HeldIds<'a> {
     ///
     /// It takes one step for each run of freed ids that it passes, however many ids are between them.
     pub fn advance_by(&mut self, count: u64) {
-        let mut rest = count;
-        while rest > 0 && self.next < self.bound {
-            match self.next_freed {
-                Some(run) if u64::from(run.first) <= self.next => {
-                    self.next = u64::from(run.last) + 1;
-                    self.next_freed = next_run(&mut self.freed_above);
-                }
-                _ => {
-                    let step = rest.min(held_end(self.bound, self.next_freed) - self.next);
-                    self.next += step;
-                    self.left -= step;
-                    rest -= step;
-                }
-            }
-        }
+        self.ids.advance_by(count);
+        self.left -= self.left.min(count);
     }
 
     /// Passes the `count` highest ids that are left, or all of them if fewer are left.
     ///
     /// It takes one step for each run of freed ids that it passes, however many ids are between them.
     pub fn advance_back_by(&mut self, count: u64) {
-        let mut rest = count;
-        while rest > 0 && self.next < self.bound {
-            match self.last_freed {
-                Some(run) if self.bound <= u64::from(run.last) + 1 => {
-                    self.bound = run.first.into();
-                    self.last_freed = last_run(&mut self.freed_below);
-                }
-                _ => {
-                    let step = rest.min(self.bound - held_start(self.next, self.last_freed));
-                    self.bound -= step;
-                    self.left -= step;
-                    rest -= step;
-                }
-            }
-        }
-    }
-}
-
-/// Takes the lowest run that is left.
-pub(super) fn next_run(runs: &mut Iter<'_, Run>) -> Option<Run> {
-    runs.next().copied()
-}
-
-/// Takes the highest run that is left.
-pub(super) fn last_run(runs: &mut Iter<'_, Run>) -> Option<Run> {
-    runs.next_back().copied()
-}
-
-/// Returns where the allocated ids below the next run of freed ids end.
-fn held_end(bound: u64, freed: Option<Run>) -> u64 {
-    match freed {
-        Some(run) => bound.min(run.first.into()),
-        None => bound,
-    }
-}
-
-/// Returns where the allocated ids above the last run of freed ids start.
-fn held_start(next: u64, freed: Option<Run>) -> u64 {
-    match freed {
-        Some(run) => next.max(u64::from(run.last) + 1),
-        None => next,
+        self.ids.advance_back_by(count);
+        self.left -= self.left.min(count);
     }
 }
 
@@ -107,41 +44,18 @@ impl<'a> Iterator for HeldIds<'a> {
 
     /// Returns the lowest allocated id that is left.
     fn next(&mut self) -> Option<u32> {
-        while self.next < self.bound {
-            match self.next_freed {
-                Some(run) if u64::from(run.first) <= self.next => {
-                    self.next = u64::from(run.last) + 1;
-                    self.next_freed = next_run(&mut self.freed_above);
-                }
-                _ => {
-                    let id = self.next as u32;
-                    self.next += 1;
-                    self.left -= 1;
-                    return Some(id);
-                }
-            }
-        }
-        None
+        let id = self.ids.next()?;
+        self.left -= 1;
+        Some(id)
     }
 }
 
 impl<'a> DoubleEndedIterator for HeldIds<'a> {
     /// Returns the highest allocated id that is left.
     fn next_back(&mut self) -> Option<u32> {
-        while self.next < self.bound {
-            match self.last_freed {
-                Some(run) if self.bound <= u64::from(run.last) + 1 => {
-                    self.bound = run.first.into();
-                    self.last_freed = last_run(&mut self.freed_below);
-                }
-                _ => {
-                    self.bound -= 1;
-                    self.left -= 1;
-                    return Some(self.bound as u32);
-                }
-            }
-        }
-        None
+        let id = self.ids.next_back()?;
+        self.left -= 1;
+        Some(id)
     }
 }
 
@@ -150,17 +64,8 @@ impl IdAllocator {
     ///
     /// It passes a run of freed ids in one step, and does not allocate memory.
     pub fn held_ids(&self) -> HeldIds<'_> {
-        let mut freed_above = self.freed_ids.runs();
-        let next_freed = next_run(&mut freed_above);
-        let mut freed_below = self.freed_ids.runs();
-        let last_freed = last_run(&mut freed_below);
         HeldIds {
-            next: u64::from(self.range_base),
-            bound: bound_of(self.next_id, self.range_end),
-            next_freed,
-            freed_above,
-            last_freed,
-            freed_below,
+            ids: self.held_ids_in(self.range_base, self.range_end),
             left: self.held_count(),
         }
     }

@@ -2,12 +2,12 @@
 -- The prover guesses no invariant.
 use Rattle.std.proofs.Common.{◌≡◌, ◌-◌, drop}
 use Rattle.vm_ids.specs.Checks.IdQueries.{freed_from, freed_to, ids_left, AreIdsLeft, AreFilled}
-use Rattle.vm_ids.proofs.id_allocator.held_ids.HeldIds.advance_by.Given as goal
+use Rattle.vm_ids.proofs.id_allocator.held_ids_in.HeldIdsIn.advance_by.Given as goal
 
 abbrev pub invariant-loop-rest : goal.invariant-loop-rest
 invariant-loop-rest l = record {
   valid : AreIdsLeft l.self-inside.next l.self-inside.bound (freed_from l.self-inside.next_freed l.self-inside.freed_above)
-      (freed_to l.self-inside.freed_below l.self-inside.last_freed) l.self-inside.left;
+      (freed_to l.self-inside.freed_below l.self-inside.last_freed);
   above : AreFilled l.self-inside.next_freed l.self-inside.freed_above;
   below : AreFilled l.self-inside.last_freed l.self-inside.freed_below;
   same : drop l.rest (ids_left l.self-inside.next l.self-inside.bound (freed_from l.self-inside.next_freed l.self-inside.freed_above))

@@ -2,7 +2,7 @@
 -- The prover guesses no invariant.
 use Rattle.std.proofs.Common.{◌≡◌, ◌-◌, ℕ, List, length, take}
 use Rattle.vm_ids.specs.Checks.IdQueries.{freed_from, freed_to, ids_left, AreIdsLeft, AreFilled}
-use Rattle.vm_ids.proofs.id_allocator.held_ids.HeldIds.advance_back_by.Given as goal
+use Rattle.vm_ids.proofs.id_allocator.held_ids_in.HeldIdsIn.advance_back_by.Given as goal
 
 abbrev pub invariant-loop-rest : goal.invariant-loop-rest
 invariant-loop-rest l =
@@ -11,7 +11,7 @@ invariant-loop-rest l =
     (freed_from l.initial.self-inside.next_freed l.initial.self-inside.freed_above) in
     record {
       valid : AreIdsLeft l.self-inside.next l.self-inside.bound (freed_from l.self-inside.next_freed l.self-inside.freed_above)
-          (freed_to l.self-inside.freed_below l.self-inside.last_freed) l.self-inside.left;
+          (freed_to l.self-inside.freed_below l.self-inside.last_freed);
       above : AreFilled l.self-inside.next_freed l.self-inside.freed_above;
       below : AreFilled l.self-inside.last_freed l.self-inside.freed_below;
       same : take (length now - l.rest) now ≡ take (length all - l.count) all;
