@@ -63,7 +63,7 @@ METHODS = set("""and_then append as_array as_object as_slice as_str as_u64 capac
     pop_first position push range read remove reserve rotate_left rotate_right saturating_add saturating_sub
     split_at split_at_mut split_first split_last split_off swap_remove swap_with_slice take trailing_zeros truncate unwrap
     write_all write_str""".split())
-MACROS = {"json", "unreachable"}
+MACROS = {"json", "matches", "unreachable"}
 DERIVES = {"Clone", "Copy", "Debug", "Default", "Drop", "Eq", "Error", "Hash", "Ord", "PartialEq", "PartialOrd"}
 TRAITS = {"Clone", "Debug", "DoubleEndedIterator", "Eq", "ExactSizeIterator", "From", "Iterator", "Ord", "PartialEq", "PartialOrd"}
 # Names that no item of a crate may have, because the tables mean the items of the libraries.
