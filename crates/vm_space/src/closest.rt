@@ -68,7 +68,7 @@ impl Seek<Leaf> for Closest {
     #[inline(always)]
     fn fits(&self, entry: &Entry) -> bool {
         self.search.size <= entry.longest
-            && self.search.alignment.trailing_zeros() < u32::from(entry.alignments)
+            && self.search.alignment.trailing_zeros() < entry.alignments
     }
 
     #[tactic(auto, using(crate::proofs::Seekings::is_search))]

@@ -1,5 +1,5 @@
 //! Changes of one array, of which the first `len` items are used.
-ghost use Rattle.std.specs.Prelude.{◌≡◌, ◌+◌, ◌-◌, ◌<◌, ◌≤◌, ◌∷◌, ◌++◌, take, drop, length, set, replicate, get_or};
+ghost use Rattle.std.specs.Prelude.{◌≡◌, ◌+◌, ◌-◌, ◌<◌, ◌≤◌, ◌∷◌, ◌++◌, max, take, drop, length, set, replicate, get_or};
 ghost use Rattle.std.specs.List.{insert, remove};
 ghost use Rattle.vm_tree.specs.Padded.{IsPadded, greatest, IsOrdered};
 
@@ -75,23 +75,35 @@ pub(crate) fn last_up_to(at: &[u64; FANOUT], address: u64) -> usize
         + one_if_at_most(at[q + 3], address)
 }
 
-/// Returns the greatest item.
+/// Returns the greatest of the four items starting at an index.
 #[inline(always)]
-#[tactic(auto, using(crate::proofs::Moved::greatest_next))]
+#[tactic(auto, using(crate::proofs::Moved::greatest_four))]
+fn greatest_of_four(items: &[u64; FANOUT], from: usize) -> u64
+    requires { from + 4 ≤ FANOUT }
+    ensures { greatest (take (from + 4) items.now) ≡ max (greatest (take from items.now)) result }
+{
+    let low = items[from].max(items[from + 1]);
+    let high = items[from + 2].max(items[from + 3]);
+    low.max(high)
+}
+
+/// Returns the greatest item.
+///
+/// The processor can compare several pairs at once.
+#[inline(always)]
+#[tactic(auto, using(crate::proofs::Moved::greatest_all))]
 pub(crate) fn greatest_in(items: &[u64; FANOUT]) -> u64
     ensures { result ≡ greatest items.now }
 {
-    let mut most = 0;
-    for i in 0..FANOUT {
-        most = most.max(items[i]);
-    }
-    most
+    let low = greatest_of_four(items, 0).max(greatest_of_four(items, 4));
+    let high = greatest_of_four(items, 8).max(greatest_of_four(items, 12));
+    low.max(high)
 }
 
-/// Returns the greatest of small items.
+/// Returns the greatest of short items.
 #[inline(always)]
 #[tactic(auto, using(crate::proofs::Moved::greatest_next))]
-pub(crate) fn most_in(items: &[u8; FANOUT]) -> u8
+pub(crate) fn most_in(items: &[u32; FANOUT]) -> u32
     ensures { result ≡ greatest items.now }
 {
     let mut most = 0;

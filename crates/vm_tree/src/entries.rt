@@ -17,7 +17,7 @@ pub(crate) const MIN_CHILDREN: usize = 5;
 pub struct Entry {
     pub at: u64,
     pub longest: u64,
-    pub alignments: u8,
+    pub alignments: u32,
 }
 
 /// No entry is above it. A change of a root is told it, because no entry of a root is stored.
@@ -33,7 +33,7 @@ pub(crate) const MOST: Entry = Entry {
 pub struct Entries {
     at: [u64; FANOUT],
     longest: [u64; FANOUT],
-    alignments: [u8; FANOUT],
+    alignments: [u32; FANOUT],
     len: usize,
 }
 
@@ -224,7 +224,7 @@ impl Entries {
     /// Returns the most alignments.
     #[inline(always)]
     #[tactic(auto, using(crate::proofs::Rows::alignments_all))]
-    pub fn alignments(&self) -> u8
+    pub fn alignments(&self) -> u32
         ensures { result ≡ alignments_of self.now }
     {
         let _len = self.len;

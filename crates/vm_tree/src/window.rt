@@ -16,6 +16,10 @@ pub(crate) fn low_kid(entries: &Entries, address: u64) -> usize
     requires order { Ascends entries.now }
     ensures { IsLowKid address entries.now result }
 {
+    // Most windows begin with the space.
+    if entries.len() > 1 && address < entries.entry(1).at {
+        return 0;
+    }
     entries.index_of(address)
 }
 
@@ -26,8 +30,11 @@ pub(crate) fn kid_count(entries: &Entries, address: u64) -> usize
     requires order { Ascends entries.now }
     ensures { IsKidCount address entries.now result }
 {
-    // Proof: `len` bounds the number of entries.
-    let _len = entries.len();
+    // Most windows end with the space.
+    let len = entries.len();
+    if entries.entry(len - 1).at <= address {
+        return len;
+    }
     entries.index_of(address) + 1
 }
 

@@ -609,7 +609,7 @@ fn no_request_is_made() {
 
 /// The bytes of a leaf and of an inner node.
 const LEAF: usize = 280;
-const NODE: usize = 416;
+const NODE: usize = 464;
 
 /// Returns the bytes of the tree that is built of this number of blocks, which has three levels.
 fn built(blocks: usize) -> usize {

@@ -62,19 +62,27 @@ pub(in crate::proved::vm_tree) fn last_up_to(at: &[u64; FANOUT], address: u64) -
         + one_if_at_most(at[q + 3], address)
 }
 
-/// Returns the greatest item.
+/// Returns the greatest of the four items starting at an index.
 #[inline(always)]
-pub(in crate::proved::vm_tree) fn greatest_in(items: &[u64; FANOUT]) -> u64 {
-    let mut most = 0;
-    for i in 0..FANOUT {
-        most = most.max(items[i]);
-    }
-    most
+fn greatest_of_four(items: &[u64; FANOUT], from: usize) -> u64 {
+    let low = items[from].max(items[from + 1]);
+    let high = items[from + 2].max(items[from + 3]);
+    low.max(high)
 }
 
-/// Returns the greatest of small items.
+/// Returns the greatest item.
+///
+/// The processor can compare several pairs at once.
 #[inline(always)]
-pub(in crate::proved::vm_tree) fn most_in(items: &[u8; FANOUT]) -> u8 {
+pub(in crate::proved::vm_tree) fn greatest_in(items: &[u64; FANOUT]) -> u64 {
+    let low = greatest_of_four(items, 0).max(greatest_of_four(items, 4));
+    let high = greatest_of_four(items, 8).max(greatest_of_four(items, 12));
+    low.max(high)
+}
+
+/// Returns the greatest of short items.
+#[inline(always)]
+pub(in crate::proved::vm_tree) fn most_in(items: &[u32; FANOUT]) -> u32 {
     let mut most = 0;
     for i in 0..FANOUT {
         most = most.max(items[i]);

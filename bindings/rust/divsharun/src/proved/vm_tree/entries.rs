@@ -17,7 +17,7 @@ pub(in crate::proved::vm_tree) const MIN_CHILDREN: usize = 5;
 pub(in crate::proved) struct Entry {
     pub(in crate::proved) at: u64,
     pub(in crate::proved) longest: u64,
-    pub(in crate::proved) alignments: u8,
+    pub(in crate::proved) alignments: u32,
 }
 
 /// No entry is above it. A change of a root is told it, because no entry of a root is stored.
@@ -33,7 +33,7 @@ pub(in crate::proved::vm_tree) const MOST: Entry = Entry {
 pub(in crate::proved) struct Entries {
     at: [u64; FANOUT],
     longest: [u64; FANOUT],
-    alignments: [u8; FANOUT],
+    alignments: [u32; FANOUT],
     len: usize,
 }
 
@@ -154,7 +154,7 @@ impl Entries {
 
     /// Returns the most alignments.
     #[inline(always)]
-    pub(in crate::proved) fn alignments(&self) -> u8 {
+    pub(in crate::proved) fn alignments(&self) -> u32 {
         let _len = self.len;
         most_in(&self.alignments)
     }

@@ -10,12 +10,21 @@ use crate::proved::vm_tree::search::Seek;
 /// Returns the index of the last child that starts at `address` or below it, or 0.
 #[inline(always)]
 pub(in crate::proved::vm_tree) fn low_kid(entries: &Entries, address: u64) -> usize {
+    // Most windows begin with the space.
+    if entries.len() > 1 && address < entries.entry(1).at {
+        return 0;
+    }
     entries.index_of(address)
 }
 
 /// Returns the number of children that start at `address` or below it, or 1 if there is none.
 #[inline(always)]
 pub(in crate::proved::vm_tree) fn kid_count(entries: &Entries, address: u64) -> usize {
+    // Most windows end with the space.
+    let len = entries.len();
+    if entries.entry(len - 1).at <= address {
+        return len;
+    }
     entries.index_of(address) + 1
 }
 

@@ -12,7 +12,7 @@ pub(in crate::proved) struct Summary {
     /// The length of the longest gap, in addresses.
     pub(in crate::proved) longest: u64,
     /// The number of the 64 alignments that have a multiple in a gap.
-    pub(in crate::proved) alignments: u8,
+    pub(in crate::proved) alignments: u32,
 }
 
 /// Returns a number whose highest bit is the largest alignment that has a multiple in the range.
@@ -28,11 +28,11 @@ fn reach(start: u64, end: u64) -> u64 {
 
 /// Returns the number of binary digits of `number`, or 0 if it is 0.
 #[inline(always)]
-fn bit_length(number: u64) -> u8 {
+fn bit_length(number: u64) -> u32 {
     if number == 0 {
         0
     } else {
-        number.ilog2() as u8 + 1
+        number.ilog2() + 1
     }
 }
 
