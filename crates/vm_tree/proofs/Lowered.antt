@@ -7,12 +7,12 @@ use Rattle.vm_tree.specs.Subtree.{Subtree, kids, over, IsFull, AreFull}
 use Rattle.vm_tree.specs.Nodes.{kids_of, node_tree}
 use Rattle.vm_tree.specs.Lowers.{IsRootCut, IsLowered, HasShrunk, IsTreeCut}
 use Rattle.vm_tree.specs.Edits.{IsEdited}
-use Rattle.vm_tree.specs.Shrinks.{Any, JoinsIf, Shrank, IsShrunk}
+use Rattle.vm_tree.specs.Shrinks.{Any, JoinsIf, ShrankNode, IsShrunk}
 use Rattle.vm_tree.specs.Mends.{NoJoin}
 use Rattle.vm_tree.specs.declared.node.Kids.{Kids}
 use Rattle.vm_tree.specs.declared.node.Node.{Node}
-use Rattle.vm_tree.specs.declared.cut.Shrunk.{Shrunk}
-use Rattle.vm_tree.specs.declared.cut.Shrunk.TheVariants as shrunk
+use Rattle.vm_tree.specs.declared.cut.ShrunkNode.{ShrunkNode}
+use Rattle.vm_tree.specs.declared.cut.ShrunkNode.TheVariants as shrunk_node
 use Rattle.vm_tree.proofs.Shrinking.{weaken, plain}
 
 module _ {X C : Type 0} (tree : Box C Global → Subtree X) where
@@ -70,40 +70,40 @@ module _ {X : Type 0} (en : X → Entry) (P : X → Type 0) (J : X → X → Lis
       regrouped = weaken (JoinsIf S J) J (λ x y zs q. q.1) r.middle new r.regrouped;
     }
 
-    node_cut : (s t r : Subtree X) (o : Shrunk) → Shrank en P (JoinsIf S J) key refuses edits s t o → 2 ≤ kids s → IsLowered t r
+    node_cut : (s t r : Subtree X) (o : ShrunkNode) → ShrankNode en P (JoinsIf S J) key refuses edits s t o → 2 ≤ kids s → IsLowered t r
         → IsTreeCut en J key refuses edits s r (HasShrunk o)
-    node_cut s t r shrunk.Refused g k l = record {
+    node_cut s t r shrunk_node.Refused g k l = record {
       same = l.same (subst (λ (z : Subtree X). 2 ≤ kids z) (sym g.same) k) ∙ g.same;
       refused = g.refused;
     }
-    node_cut s t r shrunk.Same g k l = record {
+    node_cut s t r shrunk_node.Same g k l = record {
       height = omega (arith, g.one.height, l.height);
       lower = omega (arith, g.one.height, l.lower);
       cut = subst (λ xs. IsShrunk en J key edits s.leaves xs) (sym l.leaves) (looser g.one.cut);
     }
-    node_cut s t r (shrunk.Begins a) g k l = record {
+    node_cut s t r (shrunk_node.Begins a) g k l = record {
       height = omega (arith, g.one.height, l.height);
       lower = omega (arith, g.one.height, l.lower);
       cut = subst (λ xs. IsShrunk en J key edits s.leaves xs) (sym l.leaves) (looser g.one.cut);
     }
-    node_cut s t r (shrunk.Changed e) g k l = record {
+    node_cut s t r shrunk_node.Changed g k l = record {
       height = omega (arith, g.one.height, l.height);
       lower = omega (arith, g.one.height, l.lower);
       cut = subst (λ xs. IsShrunk en J key edits s.leaves xs) (sym l.leaves) (looser g.one.cut);
     }
-    node_cut s t r (shrunk.Small e) g k l = record {
+    node_cut s t r (shrunk_node.Small e) g k l = record {
       height = omega (arith, g.one.height, l.height);
       lower = omega (arith, g.one.height, l.lower);
       cut = subst (λ xs. IsShrunk en J key edits s.leaves xs) (sym l.leaves) (looser g.one.cut);
     }
 
-    pub node_after : (s t r was now : Subtree X) (o : Shrunk) (done : Bool) → Shrank en P (JoinsIf S J) key refuses edits s t o → 2 ≤ kids s
+    pub node_after : (s t r was now : Subtree X) (o : ShrunkNode) (done : Bool) → ShrankNode en P (JoinsIf S J) key refuses edits s t o → 2 ≤ kids s
         → IsLowered t r → was ≡ s → now ≡ r → done ≡ HasShrunk o → IsTreeCut en J key refuses edits was now done
     node_after s t r was now o done g k l a b d = rw (a, b, d) (node_cut s t r o g k l)
 
-    pub some_left : (s t : Subtree X) (o : Shrunk) → Shrank en P (JoinsIf S J) key refuses edits s t o → 2 ≤ kids s → 0 < kids t
-    some_left s t shrunk.Refused g k = omega (arith, ap kids g.same, k)
-    some_left s t shrunk.Same g k = omega (arith, g.one.fan, k)
-    some_left s t (shrunk.Begins a) g k = omega (arith, g.one.fan, k)
-    some_left s t (shrunk.Changed e) g k = omega (arith, g.one.fan, k)
-    some_left s t (shrunk.Small e) g k = omega (arith, g.one.fan, k)
+    pub some_left : (s t : Subtree X) (o : ShrunkNode) → ShrankNode en P (JoinsIf S J) key refuses edits s t o → 2 ≤ kids s → 0 < kids t
+    some_left s t shrunk_node.Refused g k = omega (arith, ap kids g.same, k)
+    some_left s t shrunk_node.Same g k = omega (arith, g.one.fan, k)
+    some_left s t (shrunk_node.Begins a) g k = omega (arith, g.one.fan, k)
+    some_left s t shrunk_node.Changed g k = omega (arith, g.one.fan, k)
+    some_left s t (shrunk_node.Small e) g k = omega (arith, g.one.fan, k)

@@ -3,9 +3,11 @@ use Rattle.std.proofs.Common.{◌≡◌, ℕ, List, ◌∙◌, sym, refl, ap, su
 use Rattle.vm_tree.specs.Entry.{Entry}
 use Rattle.vm_tree.specs.Rows.{beginning_at}
 use Rattle.vm_tree.specs.Subtree.{Subtree, nth_tree, entry_of}
-use Rattle.vm_tree.specs.Shrinks.{Shrank, ShrankAt, IsQuiet}
+use Rattle.vm_tree.specs.Shrinks.{Shrank, ShrankAt, ShrankNode, IsQuiet, IsShrunkOf}
 use Rattle.vm_tree.specs.declared.cut.Shrunk.{Shrunk}
 use Rattle.vm_tree.specs.declared.cut.Shrunk.TheVariants as shrunk
+use Rattle.vm_tree.specs.declared.cut.ShrunkNode.{ShrunkNode}
+use Rattle.vm_tree.specs.declared.cut.ShrunkNode.TheVariants as shrunk_node
 
 module _ {X : Type 0} (entry : X → Entry) (enough : X → Type 0) (joins : X → X → List X → Type 0) (key : ℕ) (refuses : X → Type 0) (edits : X → List X → Type 0) where
   quieted : (was : Entry) (s t : Subtree X) (o r : Shrunk) → was ≡ entry_of entry s → IsQuiet was o r → Shrank entry enough joins key refuses edits s t o
@@ -54,3 +56,14 @@ still_small was P shrunk.Refused r q f d h = absurd (subst (IsQuiet was shrunk.R
 still_small was P shrunk.Same r q f d h = absurd (subst (IsQuiet was shrunk.Same) h q)
 still_small was P (shrunk.Begins a) r q f d h = absurd (subst (IsQuiet was (shrunk.Begins a)) h q)
 still_small was P (shrunk.Changed e) r q f d h = absurd (subst (IsQuiet was (shrunk.Changed e)) h q)
+
+-- A change of a node, and of the child that it is.
+module _ {X : Type 0} (entry : X → Entry) (enough : X → Type 0) (joins : X → X → List X → Type 0) (key : ℕ) (refuses : X → Type 0) (edits : X → List X → Type 0) where
+  pub shrunk_node_of : (was : Entry) (s t : Subtree X) (o : ShrunkNode) (r : Shrunk) → was ≡ entry_of entry s → IsShrunkOf (entry_of entry t) was o r
+      → ShrankNode entry enough joins key refuses edits s t o → Shrank entry enough joins key refuses edits s t r
+  shrunk_node_of was s t shrunk_node.Refused r w q g = subst (Shrank entry enough joins key refuses edits s t) (sym q) g
+  shrunk_node_of was s t shrunk_node.Same r w q g = subst (Shrank entry enough joins key refuses edits s t) (sym q) g
+  shrunk_node_of was s t (shrunk_node.Begins a) r w q g = subst (Shrank entry enough joins key refuses edits s t) (sym q) g
+  shrunk_node_of was s t shrunk_node.Changed r w q g =
+      quieted entry enough joins key refuses edits was s t (shrunk.Changed (entry_of entry t)) r w q (record { one = g.one; sum = refl; full = g.full })
+  shrunk_node_of was s t (shrunk_node.Small e) r w q g = subst (Shrank entry enough joins key refuses edits s t) (sym q) g

@@ -12,9 +12,10 @@ use Rattle.vm_tree.specs.Subtree.{Subtree, leaves_of, front, over, nth_tree, no_
 use Rattle.vm_tree.specs.Edits.{AtKey}
 use Rattle.vm_tree.specs.Over.{IsOver}
 use Rattle.vm_tree.specs.Mends.{NoJoin, IsRegrouped, IsMended, AtPair, with_pair}
-use Rattle.vm_tree.specs.Shrinks.{Any, HasBegun, JoinsIf, Meet, MeetsAfter, IsSumOf, IsShrunk, IsCut, IsUncut, IsCutSame, IsCutFull, Shrank, ShrankAt}
-use Rattle.vm_tree.specs.declared.cut.Shrunk.{Shrunk}
+use Rattle.vm_tree.specs.Shrinks.{Any, HasBegun, JoinsIf, Meet, MeetsAfter, IsSmallOrFull, IsShrunk, IsCut, IsUncut, IsCutSame, IsCutFull, IsCutOther, ShrankNode, ShrankAt}
 use Rattle.vm_tree.specs.declared.cut.Shrunk.TheVariants as shrunk
+use Rattle.vm_tree.specs.declared.cut.ShrunkNode.{ShrunkNode}
+use Rattle.vm_tree.specs.declared.cut.ShrunkNode.TheVariants as shrunk_node
 use Rattle.vm_tree.specs.Nodes.{leaf_tree, node_tree}
 use Rattle.vm_tree.proofs.Flats.{flat-append, flat_set, front_set, full_at, full_set, full_both, front_is, full_over, sum-entries, length-entries, nth-entries}
 use Rattle.vm_tree.proofs.Rows.{first_begun, later_begun}
@@ -224,7 +225,7 @@ module _ {X C : Type 0} (en : X → Entry) (P : X → Type 0) (key : ℕ) (refus
     full_over_set e fs r s =
         over_set os d fs r.new r.list (still os d fs r.new r.list r.shrank.full) (s ∙ ap (set es i) r.shrank.sum ∙ entries_set r.new)
 
-    pub full : (e m : Entry) (fs : List Entry) → ShrankAt en P J key refuses edits i ss (map tree (held os)) (shrunk.Changed e) → fs ≡ set es i e
+    full : (e m : Entry) (fs : List Entry) → ShrankAt en P J key refuses edits i ss (map tree (held os)) (shrunk.Changed e) → fs ≡ set es i e
         → m ≡ sum_of fs → IsCutFull en P K key refuses edits m (over ss) (over (map tree (held os)))
     full e m fs r s v =
         let g = still os d fs r.new r.list r.shrank.full in
@@ -233,6 +234,10 @@ module _ {X C : Type 0} (en : X → Entry) (P : X → Type 0) (key : ℕ) (refus
           sum = v ∙ ap sum_of o.entries ∙ sum-entries en P _ (map tree (held os)) o.even;
           full = full_set_over os d fs r.new r.list g;
         }
+
+    pub changed : (e : Entry) (fs : List Entry) → ShrankAt en P J key refuses edits i ss (map tree (held os)) (shrunk.Changed e) → fs ≡ set es i e
+        → IsCutOther en P K key refuses edits (over ss) (over (map tree (held os)))
+    changed e fs r s = let f = full e (sum_of fs) fs r s refl in record { one = f.one; full = f.full }
 
     module _ (a : ℕ) (fs : List Entry) (r : ShrankAt en P J key refuses edits i ss (map tree (held os)) (shrunk.Begins a))
         (s : fs ≡ set es i (beginning_at a (nth es i))) where
@@ -253,18 +258,18 @@ module _ {X C : Type 0} (en : X → Entry) (P : X → Type 0) (key : ℕ) (refus
       was : sum_of es ≡ entry_of en (over ss)
       was = ap sum_of n ∙ sum-entries en P _ ss even
 
-      pub begun : (o : Shrunk) → HasBegun i a o → Shrank en P K key refuses edits (over ss) (over (map tree (held os))) o
-      begun shrunk.Refused h = absurd h
-      begun shrunk.Same h =
+      pub begun : (o : ShrunkNode) → HasBegun i a o → ShrankNode en P K key refuses edits (over ss) (over (map tree (held os))) o
+      begun shrunk_node.Refused h = absurd h
+      begun shrunk_node.Same h =
           let g = full (beginning_at a (nth es i)) (sum_of fs) fs whole s refl in
           record { one = g.one; sum = sym g.sum ∙ ap sum_of s ∙ later_begun es i a h ∙ was; full = g.full }
-      begun (shrunk.Begins b) h =
+      begun (shrunk_node.Begins b) h =
           let g = full (beginning_at a (nth es i)) (sum_of fs) fs whole s refl in
           let f : sum_of fs ≡ beginning_at a (sum_of es) =
           ap sum_of (s ∙ ap (λ j. set es j (beginning_at a (nth es j))) h.0) ∙ first_begun es a (omega (arith, count, l)) in
           record { one = g.one; sum = ap (λ c. beginning_at c (entry_of en (over ss))) h.1 ∙ ap (beginning_at a) (sym was) ∙ sym f ∙ g.sum; full = g.full }
-      begun (shrunk.Changed e) h = absurd h
-      begun (shrunk.Small e) h = absurd h
+      begun shrunk_node.Changed h = absurd h
+      begun (shrunk_node.Small e) h = absurd h
 
     module _ (e : Entry) (r : ShrankAt en P J key refuses edits i ss (map tree (held os)) (shrunk.Small e)) where
       pub small_entries : (fs : List Entry) → fs ≡ set es i e → fs ≡ map (entry_of en) (map tree (held os))
@@ -323,16 +328,15 @@ module _ {X C : Type 0} (en : X → Entry) (P : X → Type 0) (key : ℕ) (refus
         sum_is : sum_of ft ≡ entry_of en (over ts)
         sum_is = ap sum_of nt ∙ sum-entries en P (front ss) ts full_ts
 
-        pub small : (res : Shrunk) → IsSumOf ft res → Shrank en P K key refuses edits (over ss) (over ts) res
-        small shrunk.Refused q = absurd q
-        small shrunk.Same q = absurd q
-        small (shrunk.Begins a) q = absurd q
-        small (shrunk.Changed a) q = record {
+        pub small : (res : ShrunkNode) → IsSmallOrFull ft res → ShrankNode en P K key refuses edits (over ss) (over ts) res
+        small shrunk_node.Refused q = absurd q
+        small shrunk_node.Same q = absurd q
+        small (shrunk_node.Begins a) q = absurd q
+        small shrunk_node.Changed q = record {
           one = small_cut;
-          sum = q.1 ∙ sum_is;
-          full = λ _. full_over P (front ss) ts full_ts (omega (arith, q.0, ap length nt, length-map ts (entry_of en))) (omega (arith, length-map (held ot) tree, dt.fits));
+          full = λ _. full_over P (front ss) ts full_ts (omega (arith, q, ap length nt, length-map ts (entry_of en))) (omega (arith, length-map (held ot) tree, dt.fits));
         }
-        small (shrunk.Small a) q = record { one = small_cut; sum = q ∙ sum_is }
+        small (shrunk_node.Small a) q = record { one = small_cut; sum = q ∙ sum_is }
 
 -- The preconditions of a join.
 module _ {A : Type 0} where

@@ -4,8 +4,8 @@ use Rattle.vm_tree.specs.Entry.{Entry}
 use Rattle.vm_tree.specs.Subtree.{Subtree, kids}
 use Rattle.vm_tree.specs.Edits.{IsRefused}
 use Rattle.vm_tree.specs.Shrinks.{IsShrunk, IsUncut, IsCut}
-use Rattle.vm_tree.specs.declared.cut.Shrunk.{Shrunk}
-use Rattle.vm_tree.specs.declared.cut.Shrunk.TheVariants as shrunk
+use Rattle.vm_tree.specs.declared.cut.ShrunkNode.{ShrunkNode}
+use Rattle.vm_tree.specs.declared.cut.ShrunkNode.TheVariants as shrunk_node
 
 -- The node s with its only child in its place, if it has one child.
 pub record IsLowered {X : Type 0} (s t : Subtree X) : Type 0 where
@@ -15,12 +15,12 @@ pub record IsLowered {X : Type 0} (s t : Subtree X) : Type 0 where
   pub same : 2 ≤ kids s → t ≡ s
 
 -- A leaf was changed.
-abbrev pub HasShrunk : Shrunk → Bool
-HasShrunk shrunk.Refused = false
-HasShrunk shrunk.Same = true
-HasShrunk (shrunk.Begins a) = true
-HasShrunk (shrunk.Changed e) = true
-HasShrunk (shrunk.Small e) = true
+abbrev pub HasShrunk : ShrunkNode → Bool
+HasShrunk shrunk_node.Refused = false
+HasShrunk shrunk_node.Same = true
+HasShrunk (shrunk_node.Begins a) = true
+HasShrunk shrunk_node.Changed = true
+HasShrunk (shrunk_node.Small e) = true
 
 module _ {X : Type 0} (entry : X → Entry) (joins : X → X → List X → Type 0) (key : ℕ) (refuses : X → Type 0) (edits : X → List X → Type 0) (s t : Subtree X) where
   pub record IsUncutTree : Type 0 where

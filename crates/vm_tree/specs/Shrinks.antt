@@ -7,6 +7,8 @@ use Rattle.vm_tree.specs.Edits.{IsHome, IsRefused, IsEdited}
 use Rattle.vm_tree.specs.Mends.{IsRegrouped}
 use Rattle.vm_tree.specs.declared.cut.Shrunk.{Shrunk}
 use Rattle.vm_tree.specs.declared.cut.Shrunk.TheVariants as shrunk
+use Rattle.vm_tree.specs.declared.cut.ShrunkNode.{ShrunkNode}
+use Rattle.vm_tree.specs.declared.cut.ShrunkNode.TheVariants as shrunk_node
 
 -- Nothing is asked.
 abbrev pub Any : {X : Type 0} → X → Type 0
@@ -62,6 +64,19 @@ module _ {X : Type 0} (entry : X → Entry) (enough : X → Type 0) (joins : X �
     pub one : IsCut entry joins key edits s t
     pub sum : e ≡ entry_of entry t
 
+  -- The subtree is not too small if it was not before.
+  pub record IsCutOther (s t : Subtree X) : Type 0 where
+    pub one : IsCut entry joins key edits s t
+    pub full : IsFull enough s.height s → IsFull enough s.height t
+
+  -- The node s became t.
+  abbrev pub ShrankNode : Subtree X → Subtree X → ShrunkNode → Type 0
+  ShrankNode s t shrunk_node.Refused = IsUncut s t
+  ShrankNode s t shrunk_node.Same = IsCutSame s t
+  ShrankNode s t (shrunk_node.Begins a) = IsCutFull (beginning_at a (entry_of entry s)) s t
+  ShrankNode s t shrunk_node.Changed = IsCutOther s t
+  ShrankNode s t (shrunk_node.Small e) = IsCutSmall e s t
+
   -- The subtree s became t.
   abbrev pub Shrank : Subtree X → Subtree X → Shrunk → Type 0
   Shrank s t shrunk.Refused = IsUncut s t
@@ -76,21 +91,21 @@ module _ {X : Type 0} (entry : X → Entry) (enough : X → Type 0) (joins : X �
     pub list : ts ≡ set ss i new
     pub shrank : Shrank (nth_tree ss i) new o
 
--- The sum of these entries, and whether they are enough for a child.
-abbrev pub IsSumOf : List Entry → Shrunk → Type 0
-IsSumOf es shrunk.Refused = ⊥
-IsSumOf es shrunk.Same = ⊥
-IsSumOf es (shrunk.Begins a) = ⊥
-IsSumOf es (shrunk.Changed e) = (5 ≤ length es) × (e ≡ sum_of es)
-IsSumOf es (shrunk.Small e) = e ≡ sum_of es
+-- These entries are enough for a child, or they are not known to be, and this is their sum.
+abbrev pub IsSmallOrFull : List Entry → ShrunkNode → Type 0
+IsSmallOrFull es shrunk_node.Refused = ⊥
+IsSmallOrFull es shrunk_node.Same = ⊥
+IsSmallOrFull es (shrunk_node.Begins a) = ⊥
+IsSmallOrFull es shrunk_node.Changed = 5 ≤ length es
+IsSmallOrFull es (shrunk_node.Small e) = e ≡ sum_of es
 
 -- The first address of the child i was written: what it changes of the sum of all.
-abbrev pub HasBegun : ℕ → ℕ → Shrunk → Type 0
-HasBegun i a shrunk.Refused = ⊥
-HasBegun i a shrunk.Same = 0 < i
-HasBegun i a (shrunk.Begins b) = (i ≡ 0) × (b ≡ a)
-HasBegun i a (shrunk.Changed e) = ⊥
-HasBegun i a (shrunk.Small e) = ⊥
+abbrev pub HasBegun : ℕ → ℕ → ShrunkNode → Type 0
+HasBegun i a shrunk_node.Refused = ⊥
+HasBegun i a shrunk_node.Same = 0 < i
+HasBegun i a (shrunk_node.Begins b) = (i ≡ 0) × (b ≡ a)
+HasBegun i a shrunk_node.Changed = ⊥
+HasBegun i a (shrunk_node.Small e) = ⊥
 
 -- A change of a child as its parent knows it. The entry can be as before, or begin at another address.
 abbrev pub IsQuiet : Entry → Shrunk → Shrunk → Type 0
@@ -102,3 +117,11 @@ IsQuiet was (shrunk.Changed e) (shrunk.Begins a) = e ≡ beginning_at a was
 IsQuiet was (shrunk.Changed e) (shrunk.Changed d) = d ≡ e
 IsQuiet was (shrunk.Small e) (shrunk.Small d) = d ≡ e
 IsQuiet _ _ _ = ⊥
+
+-- A change of a node as its parent knows it. The node has the entry e now.
+abbrev pub IsShrunkOf : Entry → Entry → ShrunkNode → Shrunk → Type 0
+IsShrunkOf e was shrunk_node.Refused r = r ≡ shrunk.Refused
+IsShrunkOf e was shrunk_node.Same r = r ≡ shrunk.Same
+IsShrunkOf e was (shrunk_node.Begins a) r = r ≡ shrunk.Begins a
+IsShrunkOf e was shrunk_node.Changed r = IsQuiet was (shrunk.Changed e) r
+IsShrunkOf e was (shrunk_node.Small d) r = r ≡ shrunk.Small d

@@ -7,7 +7,7 @@ ghost use Rattle.vm_tree.specs.Over.{IsOver};
 ghost use Rattle.vm_tree.specs.Slots.{held, IsDense};
 ghost use Rattle.vm_tree.specs.Nodes.{leaf_tree, node_tree};
 ghost use Rattle.vm_tree.specs.Mends.{NoJoin};
-ghost use Rattle.vm_tree.specs.Shrinks.{Shrank, ShrankAt, MeetsAfter, IsSumOf, IsQuiet, JoinsIf, HasBegun};
+ghost use Rattle.vm_tree.specs.Shrinks.{Shrank, ShrankAt, ShrankNode, MeetsAfter, IsSmallOrFull, IsQuiet, IsShrunkOf, JoinsIf, HasBegun};
 ghost use Rattle.vm_tree.specs.Lowers.{IsRootCut};
 ghost use Rattle.vm_tree.specs.Found.{HasKid};
 ghost use Rattle.vm_tree.specs.Entry.{Entry};
@@ -58,6 +58,21 @@ pub(crate) enum Shrunk {
     /// The child has this entry now.
     Changed(Entry),
     /// The child has this entry now, and may be too small.
+    Small(Entry),
+}
+
+/// The result of a change of a node. Its entry is computed only for a node above it.
+#[derive(Clone, Copy, Drop)]
+pub(crate) enum ShrunkNode {
+    /// The leaf refused. Nothing was changed.
+    Refused,
+    /// The entry of the node is as before.
+    Same,
+    /// The node begins at this address now. The rest of its entry is as before.
+    Begins(u64),
+    /// The node has another entry now.
+    Changed,
+    /// The node has this entry now, and may be too small.
     Small(Entry),
 }
 
@@ -150,28 +165,27 @@ fn neighbour(i: usize) -> usize
 
 /// Writes the first address of the child `i`. The node begins there if the child is its first one.
 #[inline(always)]
-fn begin_at(entries: &mut Entries, i: usize, at: u64) -> Shrunk
+fn begin_at(entries: &mut Entries, i: usize, at: u64) -> ShrunkNode
     requires { i < length entries.old }
     ensures entries { entries.new ≡ set entries.old i (beginning_at at (nth entries.old i)) }
     ensures begun { HasBegun i at result }
 {
     entries.set_at(i, at);
     if i > 0 {
-        return Shrunk::Same;
+        return ShrunkNode::Same;
     }
-    Shrunk::Begins(at)
+    ShrunkNode::Begins(at)
 }
 
-/// Returns what became of a node that has these entries.
-fn small_of(entries: &Entries) -> Shrunk
+/// Returns the result for a node that has these entries.
+fn small_of(entries: &Entries) -> ShrunkNode
     requires { 0 < length entries.now }
-    ensures { IsSumOf entries.now result }
+    ensures { IsSmallOrFull entries.now result }
 {
-    let sum = entries.sum();
     if entries.len() < MIN_CHILDREN {
-        return Shrunk::Small(sum);
+        return ShrunkNode::Small(entries.sum());
     }
-    Shrunk::Changed(sum)
+    ShrunkNode::Changed
 }
 
 /// Changes the child `i` of a node, a leaf.
@@ -183,7 +197,7 @@ fn cut_leaves<L: Leaf, E: Cut<L>>(
     key: u64,
     edit: &mut E,
     count: &mut u64,
-) -> Shrunk
+) -> ShrunkNode
     requires over { IsOver L.entry L.enough 0 leaf_tree entries.old slots.old }
     requires within { i < length entries.old }
     requires some { 2 ≤ length entries.old }
@@ -191,23 +205,38 @@ fn cut_leaves<L: Leaf, E: Cut<L>>(
     requires upto { i + 1 < length entries.old → key < (nth entries.old (i + 1)).at }
     requires meet { E.shrinks edit.old → MeetsAfter L.entry L.meets key (λ l ls. (e : E) × E.edits edit.old l e ls) (leaves_of (map leaf_tree (held slots.old))) }
     ensures over { IsOver L.entry L.enough 0 leaf_tree entries.new slots.new }
-    ensures shrank { Shrank L.entry L.enough (JoinsIf (E.shrinks edit.old) L.joins) key (λ l. E.refuses edit.old l edit.new) (λ l ls. E.edits edit.old l edit.new ls) (over (map leaf_tree (held slots.old))) (over (map leaf_tree (held slots.new))) result }
+    ensures shrank { ShrankNode L.entry L.enough (JoinsIf (E.shrinks edit.old) L.joins) key (λ l. E.refuses edit.old l edit.new) (λ l ls. E.edits edit.old l edit.new ls) (over (map leaf_tree (held slots.old))) (over (map leaf_tree (held slots.new))) result }
     ensures count { IsCounted count.old count.new 1 }
 {
     let was = entries.entry(i);
     match cut_leaf_at(slots, i, was, edit, count) {
-        Shrunk::Refused => Shrunk::Refused,
-        Shrunk::Same => Shrunk::Same,
+        Shrunk::Refused => ShrunkNode::Refused,
+        Shrunk::Same => ShrunkNode::Same,
         Shrunk::Begins(at) => begin_at(entries, i, at),
         Shrunk::Changed(entry) => {
             entries.set_entry(i, entry);
-            Shrunk::Changed(entries.sum())
+            ShrunkNode::Changed
         }
         Shrunk::Small(entry) => {
             entries.set_entry(i, entry);
             mend_leaves(entries, slots, neighbour(i));
             small_of(entries)
         }
+    }
+}
+
+/// Returns the result of a change of a child that is a node, beside which `was` is stored.
+#[inline(always)]
+fn shrunk_of<L: Leaf>(kid: &Node<L>, outcome: ShrunkNode, was: Entry) -> Shrunk
+    requires { outcome ≡ ShrunkNode.Changed → 0 < kids kid.now }
+    ensures { IsShrunkOf (entry_of L.entry kid.now) was outcome result }
+{
+    match outcome {
+        ShrunkNode::Refused => Shrunk::Refused,
+        ShrunkNode::Same => Shrunk::Same,
+        ShrunkNode::Begins(at) => Shrunk::Begins(at),
+        ShrunkNode::Changed => quiet(Shrunk::Changed(kid.entry()), was),
+        ShrunkNode::Small(entry) => Shrunk::Small(entry),
     }
 }
 
@@ -237,7 +266,7 @@ fn cut_node_at<L: Leaf, E: Cut<L>>(
         Some(kid) => {
             let kid: &mut Node<L> = kid;
             let outcome = cut_at(kid, key, edit, count);
-            quiet(outcome, was)
+            shrunk_of(kid, outcome, was)
         }
         None => unreachable!(),
     }
@@ -253,7 +282,7 @@ fn cut_nodes<L: Leaf, E: Cut<L>>(
     key: u64,
     edit: &mut E,
     count: &mut u64,
-) -> Shrunk
+) -> ShrunkNode
     requires over { IsOver L.entry L.enough 2 node_tree entries.old slots.old }
     requires within { i < length entries.old }
     requires some { 2 ≤ length entries.old }
@@ -262,17 +291,17 @@ fn cut_nodes<L: Leaf, E: Cut<L>>(
     requires ascend { Ascend L.entry (leaves_of (map node_tree (held slots.old))) }
     requires meet { E.shrinks edit.old → MeetsAfter L.entry L.meets key (λ l ls. (e : E) × E.edits edit.old l e ls) (leaves_of (map node_tree (held slots.old))) }
     ensures over { IsOver L.entry L.enough 2 node_tree entries.new slots.new }
-    ensures shrank { Shrank L.entry L.enough (JoinsIf (E.shrinks edit.old) L.joins) key (λ l. E.refuses edit.old l edit.new) (λ l ls. E.edits edit.old l edit.new ls) (over (map node_tree (held slots.old))) (over (map node_tree (held slots.new))) result }
+    ensures shrank { ShrankNode L.entry L.enough (JoinsIf (E.shrinks edit.old) L.joins) key (λ l. E.refuses edit.old l edit.new) (λ l ls. E.edits edit.old l edit.new ls) (over (map node_tree (held slots.old))) (over (map node_tree (held slots.new))) result }
     ensures count { IsCounted count.old count.new (front (map node_tree (held slots.old))) }
 {
     let was = entries.entry(i);
     match cut_node_at(slots, i, was, key, edit, count) {
-        Shrunk::Refused => Shrunk::Refused,
-        Shrunk::Same => Shrunk::Same,
+        Shrunk::Refused => ShrunkNode::Refused,
+        Shrunk::Same => ShrunkNode::Same,
         Shrunk::Begins(at) => begin_at(entries, i, at),
         Shrunk::Changed(entry) => {
             entries.set_entry(i, entry);
-            Shrunk::Changed(entries.sum())
+            ShrunkNode::Changed
         }
         Shrunk::Small(entry) => {
             entries.set_entry(i, entry);
@@ -290,11 +319,11 @@ pub(crate) fn cut_at<L: Leaf, E: Cut<L>>(
     key: u64,
     edit: &mut E,
     count: &mut u64,
-) -> Shrunk
+) -> ShrunkNode
     requires some { 2 ≤ kids node.old }
     requires ascend { Ascend L.entry node.old.leaves }
     requires meet { E.shrinks edit.old → MeetsAfter L.entry L.meets key (λ l ls. (e : E) × E.edits edit.old l e ls) node.old.leaves }
-    ensures shrank { Shrank L.entry L.enough (JoinsIf (E.shrinks edit.old) L.joins) key (λ l. E.refuses edit.old l edit.new) (λ l ls. E.edits edit.old l edit.new ls) node.old node.new result }
+    ensures shrank { ShrankNode L.entry L.enough (JoinsIf (E.shrinks edit.old) L.joins) key (λ l. E.refuses edit.old l edit.new) (λ l ls. E.edits edit.old l edit.new ls) node.old node.new result }
     ensures count { IsCounted count.old count.new node.old.height }
 {
     *count = count.saturating_add(1);

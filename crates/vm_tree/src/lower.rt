@@ -7,7 +7,7 @@ ghost use Rattle.vm_tree.specs.Edits.{IsEdited};
 ghost use Rattle.vm_tree.specs.Roots.{root_tree, IsRoot};
 ghost use Rattle.vm_tree.specs.Lowers.{IsLowered, HasShrunk, IsTreeCut};
 
-use crate::cut::{Cut, Shrunk, cut_at, cut_root};
+use crate::cut::{Cut, ShrunkNode, cut_at, cut_root};
 use crate::leaf::Leaf;
 use crate::node::{Kids, Node};
 use crate::slots::remove_slot;
@@ -15,15 +15,15 @@ use crate::tree::{Root, Tree};
 use std::mem;
 
 /// Returns true if a change was made.
-fn has_shrunk(outcome: &Shrunk) -> bool
+fn has_shrunk(outcome: &ShrunkNode) -> bool
     ensures { result ≡ HasShrunk outcome.now }
 {
     match outcome {
-        Shrunk::Refused => false,
-        Shrunk::Same => true,
-        Shrunk::Begins(_) => true,
-        Shrunk::Changed(_) => true,
-        Shrunk::Small(_) => true,
+        ShrunkNode::Refused => false,
+        ShrunkNode::Same => true,
+        ShrunkNode::Begins(_) => true,
+        ShrunkNode::Changed => true,
+        ShrunkNode::Small(_) => true,
     }
 }
 

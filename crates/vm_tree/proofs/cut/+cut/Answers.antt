@@ -1,17 +1,18 @@
 use Rattle.std.proofs.Common.{rules, ◌≡◌, ◌+◌, ◌≤◌, length, map, arith, ap, ◌∙◌, sym, subst, lit<}
 use Rattle.std.proofs.lemmas.List.{length-map}
 use Rattle.vm_tree.specs.Slots.{held}
-use Rattle.vm_tree.specs.Subtree.{Subtree, kids, front, nth_tree, Ascend}
+use Rattle.vm_tree.specs.Subtree.{Subtree, kids, front, nth_tree, entry_of, Ascend}
 use Rattle.vm_tree.specs.Nodes.{leaf_tree, node_tree, kids_of}
 use Rattle.vm_tree.specs.Mends.{NoJoin}
 use Rattle.vm_tree.specs.Shrinks.{JoinsIf, MeetsAfter, ShrankAt}
 use Rattle.vm_tree.proofs.Flats.{length-entries, nth-entries, full_at}
 use Rattle.vm_tree.proofs.Unders.{front_leaf}
-use Rattle.vm_tree.proofs.Shrinking.{uncut_over, uncut, same_over, same, begun_over, begun, full_over_set, full, small_entries, small_length, child_meets, small_over, small_some, small, join_before, node_pair, node_height, beside_suc}
+use Rattle.vm_tree.proofs.Shrinking.{uncut_over, uncut, same_over, same, begun_over, begun, full_over_set, changed, small_entries, small_length, child_meets, small_over, small_some, small, join_before, node_pair, node_height, beside_suc}
 use Rattle.vm_tree.specs.declared.node.Kids.{Kids}
 use Rattle.vm_tree.proofs.Below.{at}
 use Rattle.vm_tree.proofs.Cuts.{shrank_at}
-use Rattle.vm_tree.proofs.Quiets.{quiet_at}
+use Rattle.vm_tree.proofs.Quiets.{shrunk_node_of}
+use Rattle.vm_tree.proofs.Lowered.{some_left}
 use Rattle.vm_tree.specs.Rows.{nth}
 use Rattle.vm_tree.proofs.Flats.{child_ascends}
 use Rattle.vm_tree.proofs.Unders.{under_ascends}
@@ -79,7 +80,7 @@ cut_nodes-returns-in-Changed-clause-shrank g t c =
     let o = c.requires.over in
     let n : length c.args.entries.now ≡ length ss = ap length o.entries ∙ length-entries g.L.Leaf.entry ss in
     let k : length ss ≡ length (held c.args.slots.now) = length-map (held c.args.slots.now) node_tree in
-    full g.L.Leaf.entry g.L.Leaf.enough c.args.key _ _ (JoinsIf (g.E.Cut.shrinks c.args.edit.now) g.L.Leaf.joins) (JoinsIf (g.E.Cut.shrinks c.args.edit.now) g.L.Leaf.joins) node_tree 2 c.args.i ss o.even (omega (arith, n, c.requires.within)) o.deep (omega (arith, o.deep)) c.args.entries.now o.entries c.requires.from c.requires.upto (λ x y zs q. q) c.cut_node_at.new.slots c.cut_node_at.ensures.dense _ _ _ (subst (ShrankAt g.L.Leaf.entry g.L.Leaf.enough (JoinsIf (g.E.Cut.shrinks c.args.edit.now) g.L.Leaf.joins) c.args.key _ _ c.args.i ss (map node_tree (held c.cut_node_at.new.slots))) c.in-Changed.is c.cut_node_at.ensures.shrank) c.set_entry.ensures c.sum.ensures
+    changed g.L.Leaf.entry g.L.Leaf.enough c.args.key _ _ (JoinsIf (g.E.Cut.shrinks c.args.edit.now) g.L.Leaf.joins) (JoinsIf (g.E.Cut.shrinks c.args.edit.now) g.L.Leaf.joins) node_tree 2 c.args.i ss o.even (omega (arith, n, c.requires.within)) o.deep (omega (arith, o.deep)) c.args.entries.now o.entries c.requires.from c.requires.upto (λ x y zs q. q) c.cut_node_at.new.slots c.cut_node_at.ensures.dense _ _ (subst (ShrankAt g.L.Leaf.entry g.L.Leaf.enough (JoinsIf (g.E.Cut.shrinks c.args.edit.now) g.L.Leaf.joins) c.args.key _ _ c.args.i ss (map node_tree (held c.cut_node_at.new.slots))) c.in-Changed.is c.cut_node_at.ensures.shrank) c.set_entry.ensures
 
 pub cut_nodes-mend_nodes-requires : goal.cut_nodes-mend_nodes-requires
 cut_nodes-mend_nodes-requires g t c =
@@ -134,12 +135,22 @@ cut_at-index_of-i-requires-clause-order g t c = λ i j p q r.
     under_ascends g.L.Leaf.entry g.L.Leaf.enough c.node.inside.entries c.node.inside.kids c.node.invariant
     (subst (λ (s : Subtree g.row.L.Denot). Ascend g.L.Leaf.entry s.leaves) (sym c.node.view_is) c.requires.ascend) i j p q r
 
+pub cut_node_at-shrunk_of-requires : goal.cut_node_at-shrunk_of-requires
+cut_node_at-shrunk_of-requires g t c =
+    let e = at node_tree c.args.slots.now c.args.i _ c.in-Some.kid c.in-Some.kid c.requires.dense c.requires.within c.in-Some.is in (
+      lit< tt,
+      λ h. some_left g.L.Leaf.entry g.L.Leaf.enough g.L.Leaf.joins c.args.key _ _ (g.E.Cut.shrinks c.args.edit.now) _ _ c.cut_at-outcome.result
+          c.cut_at-outcome.ensures.shrank (subst (λ (s : Subtree g.row.L.Denot). 2 ≤ kids s) (e ∙ sym c.deref_mut-kid.ensures.value) c.requires.some),
+    )
+
 pub cut_node_at-returns-clause-shrank : goal.cut_node_at-returns-clause-shrank
 cut_node_at-returns-clause-shrank g t c =
-    quiet_at g.L.Leaf.entry g.L.Leaf.enough (JoinsIf (g.E.Cut.shrinks c.args.edit.now) g.L.Leaf.joins) c.args.key _ _ c.args.was c.args.i (map node_tree (held c.args.slots.now)) _ c.cut_at-outcome.result _
-    c.requires.was c.quiet.ensures
-    (shrank_at node_tree c.args.slots.now c.args.i _ c.in-Some.kid _ c.requires.dense c.requires.within c.in-Some.is g.L.Leaf.entry g.L.Leaf.enough (JoinsIf (g.E.Cut.shrinks c.args.edit.now) g.L.Leaf.joins)
-    c.args.key _ _ c.cut_at-outcome.result _ c.deref_mut-kid.ensures.value c.cut_at-outcome.ensures.shrank)
+    let J = JoinsIf (g.E.Cut.shrinks c.args.edit.now) g.L.Leaf.joins in
+    let e = at node_tree c.args.slots.now c.args.i _ c.in-Some.kid c.in-Some.kid c.requires.dense c.requires.within c.in-Some.is in
+    shrank_at node_tree c.args.slots.now c.args.i _ c.in-Some.kid _ c.requires.dense c.requires.within c.in-Some.is g.L.Leaf.entry g.L.Leaf.enough J
+    c.args.key _ _ c.shrunk_of.result _ c.deref_mut-kid.ensures.value
+    (shrunk_node_of g.L.Leaf.entry g.L.Leaf.enough J c.args.key _ _ c.args.was _ _ c.cut_at-outcome.result c.shrunk_of.result
+    (c.requires.was ∙ ap (entry_of g.L.Leaf.entry) (e ∙ sym c.deref_mut-kid.ensures.value)) c.shrunk_of.ensures c.cut_at-outcome.ensures.shrank)
 
 pub cut_node_at-returns-clause-count : goal.cut_node_at-returns-clause-count
 cut_node_at-returns-clause-count g t c =

@@ -7,7 +7,7 @@ use Rattle.vm_tree.specs.Mends.{NoJoin}
 use Rattle.vm_tree.specs.Shrinks.{JoinsIf, ShrankAt}
 use Rattle.vm_tree.proofs.Flats.{length-entries}
 use Rattle.vm_tree.proofs.Unders.{front_leaf}
-use Rattle.vm_tree.proofs.Shrinking.{uncut_over, uncut, same_over, same, begun_over, begun, full_over_set, full, small_entries, small_length, small_meet, plain, small_over, small_some, small, join_after, leaf_pair, beside_suc}
+use Rattle.vm_tree.proofs.Shrinking.{uncut_over, uncut, same_over, same, begun_over, begun, full_over_set, changed, small_entries, small_length, small_meet, plain, small_over, small_some, small, join_after, leaf_pair, beside_suc}
 use Rattle.vm_tree.proofs.Finds.{kid_entry}
 use Rattle.vm_tree.proofs.cut.cut_leaves.Goals as goal
 
@@ -81,7 +81,7 @@ returns-in-Changed-clause-shrank g c =
     let n : length c.args.entries.now ≡ length ss = ap length o.entries ∙ length-entries g.L.Leaf.entry ss in
     let k : length ss ≡ length (held c.args.slots.now) = length-map (held c.args.slots.now) leaf_tree in
     let h : front ss ≡ 1 = front_leaf (held c.args.slots.now) (omega (arith, n, k, c.requires.within)) in
-    full g.L.Leaf.entry g.L.Leaf.enough c.args.key _ _ NoJoin (JoinsIf (g.E.Cut.shrinks c.args.edit.now) g.L.Leaf.joins) leaf_tree 0 c.args.i ss o.even (omega (arith, n, c.requires.within)) (omega arith) (omega (arith, h)) c.args.entries.now o.entries c.requires.from c.requires.upto (λ x y zs q. absurd q) c.cut_leaf_at.new.slots c.cut_leaf_at.ensures.dense _ _ _ (subst (ShrankAt g.L.Leaf.entry g.L.Leaf.enough NoJoin c.args.key _ _ c.args.i ss (map leaf_tree (held c.cut_leaf_at.new.slots))) c.in-Changed.is (c.cut_leaf_at.ensures.shrank c.args.key)) c.set_entry.ensures c.sum.ensures
+    changed g.L.Leaf.entry g.L.Leaf.enough c.args.key _ _ NoJoin (JoinsIf (g.E.Cut.shrinks c.args.edit.now) g.L.Leaf.joins) leaf_tree 0 c.args.i ss o.even (omega (arith, n, c.requires.within)) (omega arith) (omega (arith, h)) c.args.entries.now o.entries c.requires.from c.requires.upto (λ x y zs q. absurd q) c.cut_leaf_at.new.slots c.cut_leaf_at.ensures.dense _ _ (subst (ShrankAt g.L.Leaf.entry g.L.Leaf.enough NoJoin c.args.key _ _ c.args.i ss (map leaf_tree (held c.cut_leaf_at.new.slots))) c.in-Changed.is (c.cut_leaf_at.ensures.shrank c.args.key)) c.set_entry.ensures
 
 pub mend_leaves-requires : goal.mend_leaves-requires
 mend_leaves-requires g c =

@@ -42,6 +42,21 @@ pub(in crate::proved::vm_tree) enum Shrunk {
     Small(Entry),
 }
 
+/// The result of a change of a node. Its entry is computed only for a node above it.
+#[derive(Clone, Copy)]
+pub(in crate::proved::vm_tree) enum ShrunkNode {
+    /// The leaf refused. Nothing was changed.
+    Refused,
+    /// The entry of the node is as before.
+    Same,
+    /// The node begins at this address now. The rest of its entry is as before.
+    Begins(u64),
+    /// The node has another entry now.
+    Changed,
+    /// The node has this entry now, and may be too small.
+    Small(Entry),
+}
+
 /// Changes a leaf.
 #[inline(always)]
 pub(in crate::proved::vm_tree) fn cut_leaf<L: Leaf, E: Cut<L>>(
@@ -119,21 +134,20 @@ fn neighbour(i: usize) -> usize {
 
 /// Writes the first address of the child `i`. The node begins there if the child is its first one.
 #[inline(always)]
-fn begin_at(entries: &mut Entries, i: usize, at: u64) -> Shrunk {
+fn begin_at(entries: &mut Entries, i: usize, at: u64) -> ShrunkNode {
     entries.set_at(i, at);
     if i > 0 {
-        return Shrunk::Same;
+        return ShrunkNode::Same;
     }
-    Shrunk::Begins(at)
+    ShrunkNode::Begins(at)
 }
 
-/// Returns what became of a node that has these entries.
-fn small_of(entries: &Entries) -> Shrunk {
-    let sum = entries.sum();
+/// Returns the result for a node that has these entries.
+fn small_of(entries: &Entries) -> ShrunkNode {
     if entries.len() < MIN_CHILDREN {
-        return Shrunk::Small(sum);
+        return ShrunkNode::Small(entries.sum());
     }
-    Shrunk::Changed(sum)
+    ShrunkNode::Changed
 }
 
 /// Changes the child `i` of a node, a leaf.
@@ -145,21 +159,33 @@ fn cut_leaves<L: Leaf, E: Cut<L>>(
     key: u64,
     edit: &mut E,
     count: &mut u64,
-) -> Shrunk {
+) -> ShrunkNode {
     let was = entries.entry(i);
     match cut_leaf_at(slots, i, was, edit, count) {
-        Shrunk::Refused => Shrunk::Refused,
-        Shrunk::Same => Shrunk::Same,
+        Shrunk::Refused => ShrunkNode::Refused,
+        Shrunk::Same => ShrunkNode::Same,
         Shrunk::Begins(at) => begin_at(entries, i, at),
         Shrunk::Changed(entry) => {
             entries.set_entry(i, entry);
-            Shrunk::Changed(entries.sum())
+            ShrunkNode::Changed
         }
         Shrunk::Small(entry) => {
             entries.set_entry(i, entry);
             mend_leaves(entries, slots, neighbour(i));
             small_of(entries)
         }
+    }
+}
+
+/// Returns the result of a change of a child that is a node, beside which `was` is stored.
+#[inline(always)]
+fn shrunk_of<L: Leaf>(kid: &Node<L>, outcome: ShrunkNode, was: Entry) -> Shrunk {
+    match outcome {
+        ShrunkNode::Refused => Shrunk::Refused,
+        ShrunkNode::Same => Shrunk::Same,
+        ShrunkNode::Begins(at) => Shrunk::Begins(at),
+        ShrunkNode::Changed => quiet(Shrunk::Changed(kid.entry()), was),
+        ShrunkNode::Small(entry) => Shrunk::Small(entry),
     }
 }
 
@@ -177,7 +203,7 @@ fn cut_node_at<L: Leaf, E: Cut<L>>(
         Some(kid) => {
             let kid: &mut Node<L> = kid;
             let outcome = cut_at(kid, key, edit, count);
-            quiet(outcome, was)
+            shrunk_of(kid, outcome, was)
         }
         None => unreachable!(),
     }
@@ -192,15 +218,15 @@ fn cut_nodes<L: Leaf, E: Cut<L>>(
     key: u64,
     edit: &mut E,
     count: &mut u64,
-) -> Shrunk {
+) -> ShrunkNode {
     let was = entries.entry(i);
     match cut_node_at(slots, i, was, key, edit, count) {
-        Shrunk::Refused => Shrunk::Refused,
-        Shrunk::Same => Shrunk::Same,
+        Shrunk::Refused => ShrunkNode::Refused,
+        Shrunk::Same => ShrunkNode::Same,
         Shrunk::Begins(at) => begin_at(entries, i, at),
         Shrunk::Changed(entry) => {
             entries.set_entry(i, entry);
-            Shrunk::Changed(entries.sum())
+            ShrunkNode::Changed
         }
         Shrunk::Small(entry) => {
             entries.set_entry(i, entry);
@@ -217,7 +243,7 @@ pub(in crate::proved::vm_tree) fn cut_at<L: Leaf, E: Cut<L>>(
     key: u64,
     edit: &mut E,
     count: &mut u64,
-) -> Shrunk {
+) -> ShrunkNode {
     *count = count.saturating_add(1);
     let i = node.entries.index_of(key);
     match &mut node.kids {

@@ -2,7 +2,7 @@
 
 //! Changes that leave a tree fewer items.
 
-use crate::proved::vm_tree::cut::{cut_at, cut_root, Cut, Shrunk};
+use crate::proved::vm_tree::cut::{cut_at, cut_root, Cut, ShrunkNode};
 use crate::proved::vm_tree::leaf::Leaf;
 use crate::proved::vm_tree::node::{Kids, Node};
 use crate::proved::vm_tree::slots::remove_slot;
@@ -11,13 +11,13 @@ use crate::rattle::Box;
 use core::mem;
 
 /// Returns true if a change was made.
-fn has_shrunk(outcome: &Shrunk) -> bool {
+fn has_shrunk(outcome: &ShrunkNode) -> bool {
     match outcome {
-        Shrunk::Refused => false,
-        Shrunk::Same => true,
-        Shrunk::Begins(_) => true,
-        Shrunk::Changed(_) => true,
-        Shrunk::Small(_) => true,
+        ShrunkNode::Refused => false,
+        ShrunkNode::Same => true,
+        ShrunkNode::Begins(_) => true,
+        ShrunkNode::Changed => true,
+        ShrunkNode::Small(_) => true,
     }
 }
 
