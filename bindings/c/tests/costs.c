@@ -103,6 +103,7 @@ static const struct quick {
     {LIST_RANGES, {NEAR(2)}, 0},
     {LIST_GAPS, {NEAR(2)}, 0},
     {CONFLICT, {0}, 0},
+    {PEEK_RANGE, {0}, 0},
     {VISIT_IN, {NEAR(0), NEAR(3)}, 0},
     {GAPS_IN, {NEAR(0), NEAR(3)}, 0},
     {VISIT_FROM, {NEAR(2)}, 0},
