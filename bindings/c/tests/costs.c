@@ -1,8 +1,8 @@
 /* SPDX-License-Identifier: Apache-2.0 OR BSD-3-Clause */
 /*
  * Guards against a call that goes through all items, although it takes constant or logarithmic
- * time, against calls that take quadratic time, and against a search for a cause that the caller
- * does not want.
+ * time, and against calls that take quadratic time. No call looks for a cause that the caller does
+ * not want.
  */
 #include "every_call.h"
 
