@@ -8,9 +8,10 @@
 
 #include <time.h>
 
-/* A number that is no address, and no id. */
+/* A multiple of 2^60. */
 #define PART(number) ((uint64_t)(number) << 60)
 
+/* Ends a visit without a context at its first item. */
 static int keep_object(void *context) {
     return context == NULL;
 }
