@@ -70,6 +70,8 @@ static void look_for_no_cause(void) {
             time = time_refused(calls[i], object);
             without = round == 0 || time < without ? time : without;
         }
+        if (10 * without >= 9 * with)
+            fprintf(stderr, "call %d: %d and %d\n", calls[i], (int)with, (int)without);
         CHECK(10 * without < 9 * with);
     }
     destroy(0, space);
