@@ -1,27 +1,38 @@
 /* SPDX-License-Identifier: Apache-2.0 OR BSD-3-Clause */
 /*
  * Guards against a call that goes through all items, although it takes constant or logarithmic
- * time, against calls that take quadratic time, and against a search for a cause that the caller
- * does not want.
+ * time, and against calls that take quadratic time. No call looks for a cause that the caller does
+ * not want.
  */
+#define _POSIX_C_SOURCE 200809L
 #include "every_call.h"
 
 #include <time.h>
 
-/* A number that is no address, and no id. */
+/* A multiple of 2^60. */
 #define PART(number) ((uint64_t)(number) << 60)
 
+/* Returns the processor time of this thread in nanoseconds. That of the process is rounded to a
+ * tick if it has a limit. */
+static int64_t processor_time(void) {
+    struct timespec time;
+
+    CHECK(clock_gettime(CLOCK_THREAD_CPUTIME_ID, &time) == 0);
+    return (int64_t)time.tv_sec * 1000000000 + time.tv_nsec;
+}
+
+/* Ends a visit without a context at its first item. */
 static int keep_object(void *context) {
     return context == NULL;
 }
 
 /* ---- The cost of a cause ---- */
 
-enum { ROUNDS = 1000, TRIES = 2000 };
+enum { ROUNDS = 100, TRIES = 2000 };
 
 /* Returns the processor time of requests whose addresses are allocated. */
-static clock_t time_refused(int call, void *object) {
-    const clock_t begun = clock();
+static int64_t time_refused(int call, void *object) {
+    const int64_t begun = processor_time();
     uint64_t i;
 
     for (i = 1; i < TRIES; i++) {
@@ -32,11 +43,11 @@ static clock_t time_refused(int call, void *object) {
         given.request = requests;
         CHECK(make_call(call, object, numbers) == DVS_RESOURCE_NOT_AVAILABLE);
     }
-    return clock() - begun;
+    return processor_time() - begun;
 }
 
 /* Checks that a call without a refusal looks for no cause. Other processes only add time, so the
- * shortest rounds are compared, in as many rounds as it takes. */
+ * shortest rounds are compared. */
 static void look_for_no_cause(void) {
     static const int calls[] = {EXACT, MOVE, MOVE_REQUEST, REQUEST, LIST, RESERVE_EXACT, RESERVE};
     dvs_address_allocator *space;
@@ -56,11 +67,11 @@ static void look_for_no_cause(void) {
     }
     given = usual;
     for (i = 0; i < sizeof calls / sizeof calls[0]; i++) {
-        clock_t with = 0, without = 0;
+        int64_t with = 0, without = 0;
 
-        for (round = 0; 5 * without >= 4 * with && round < ROUNDS; round++) {
+        for (round = 0; round < ROUNDS; round++) {
             void *object = calls[i] < ID ? (void *)space : (void *)manager;
-            clock_t time;
+            int64_t time;
 
             given.has_no_refusal = false;
             time = time_refused(calls[i], object);
@@ -69,7 +80,9 @@ static void look_for_no_cause(void) {
             time = time_refused(calls[i], object);
             without = round == 0 || time < without ? time : without;
         }
-        CHECK(5 * without < 4 * with);
+        if (10 * without >= 9 * with)
+            fprintf(stderr, "call %d: %ld and %ld\n", calls[i], (long)with, (long)without);
+        CHECK(10 * without < 9 * with);
     }
     destroy(0, space);
     destroy(2, manager);
@@ -103,6 +116,7 @@ static const struct quick {
     {LIST_RANGES, {NEAR(2)}, 0},
     {LIST_GAPS, {NEAR(2)}, 0},
     {CONFLICT, {0}, 0},
+    {PEEK_RANGE, {0}, 0},
     {VISIT_IN, {NEAR(0), NEAR(3)}, 0},
     {GAPS_IN, {NEAR(0), NEAR(3)}, 0},
     {VISIT_FROM, {NEAR(2)}, 0},
@@ -171,8 +185,8 @@ static void make_many(uint32_t count, void **many) {
 }
 
 /* Returns the processor time of a call at many places. */
-static clock_t time_quick(const struct quick *row, void *object, uint64_t count) {
-    const clock_t begun = clock();
+static int64_t time_quick(const struct quick *row, void *object, uint64_t count) {
+    const int64_t begun = processor_time();
     uint64_t i, j;
 
     for (i = 0; i < PLACES; i++) {
@@ -192,7 +206,7 @@ static clock_t time_quick(const struct quick *row, void *object, uint64_t count)
         numbers[2] = at;
         CHECK(row->undo == 0 || make_call(row->undo, object, numbers) == DVS_OK);
     }
-    return clock() - begun;
+    return processor_time() - begun;
 }
 
 /* divsharun.h: "Calls on one id, device or range of a map take logarithmic time too, also if they
@@ -213,17 +227,17 @@ static void be_quick(void *const *few, void *const *lots) {
     given = usual;
     for (i = 0; i < sizeof quick / sizeof quick[0]; i++) {
         const int group = group_of(quick[i].call);
-        clock_t in_few = 0, in_lots = 0;
+        int64_t in_few = 0, in_lots = 0;
 
         for (round = 0; round < 3; round++) {
-            clock_t time = time_quick(&quick[i], few[group], FEW);
+            int64_t time = time_quick(&quick[i], few[group], FEW);
 
             in_few = round == 0 || time < in_few ? time : in_few;
             time = time_quick(&quick[i], lots[group], LOTS);
             in_lots = round == 0 || time < in_lots ? time : in_lots;
         }
         if (in_lots >= LIMIT * in_few)
-            fprintf(stderr, "call %d: %d and %d\n", quick[i].call, (int)in_few, (int)in_lots);
+            fprintf(stderr, "call %d: %ld and %ld\n", quick[i].call, (long)in_few, (long)in_lots);
         CHECK(in_lots < LIMIT * in_few);
     }
 }
@@ -257,13 +271,13 @@ static void go_through(int group, void *object) {
 /* divsharun.h: "Allocating an array takes the time of each request or id. All other calls take time
  * at most linear in the size of the object, the array or the text." */
 static void be_linear(int group, void *few, void *lots) {
-    clock_t times[2] = {0, 0}, begun;
+    int64_t times[2] = {0, 0}, begun;
     int round;
 
     for (round = 0; round < 6; round++) {
-        begun = clock();
+        begun = processor_time();
         go_through(group, round < 5 ? few : lots);
-        begun = clock() - begun;
+        begun = processor_time() - begun;
         if (round == 0 || round == 5 || begun < times[0])
             times[round == 5] = begun;
     }
@@ -274,9 +288,9 @@ int main(void) {
     void *few[GROUPS], *lots[GROUPS];
     int i;
 
+    look_for_no_cause();
     make_many(FEW, few);
     make_many(LOTS, lots);
-    look_for_no_cause();
     be_quick(few, lots);
     for (i = 0; i < GROUPS; i++) {
         be_linear(i, few[i], lots[i]);

@@ -25,7 +25,7 @@ static long begun(int call) {
     return rounds[call]++ != 500;
 }
 
-/* That of the round, or -1 before its first call. */
+/* The result of `begun` in this round, or -1 before its first call. */
 static long slower;
 
 dvs_status dvs_address_allocator_new(uint64_t base, uint64_t size, dvs_address_allocator **made) {

@@ -30,13 +30,16 @@ const LINEAR_LIMIT: u64 = 200_000;
 type Calls<O> = fn(&mut O, u64) -> bool;
 
 /// Every second address is allocated.
-const OF_SPACES: [Calls<AddressAllocator>; 19] = [
+const OF_SPACES: [Calls<AddressAllocator>; 20] = [
     |space, at| space.held_at(at).is_some() && space.gap_at(at + 1).is_some(),
     |space, at| space.holds(&one(at)) && !space.holds(&one(at + 1)),
     |space, _| space.held_count() == space.gap_count() && space.free_len() == space.gap_count(),
     |space, _| space.longest_gap() == 1 && space.base() < space.end() && space.height() > 1,
     |space, at| AddressAllocator::over(space.space()).free_len() > at,
     |space, at| space.conflict(exact(at)).is_some() && space.conflict(exact(at + 1)).is_none(),
+    |space, at| {
+        space.peek(exact(at + 1)) == Ok(one(at + 1)) && space.longest_gap_in(from(at)).is_some()
+    },
     |space, _| has_ends(space.held_ranges(), is_counted),
     |space, _| has_ends(space.gaps(), is_counted),
     |space, at| {
@@ -311,7 +314,7 @@ const OF_MANAGERS: [Calls<[DeviceManager; 2]>; 4] = [
 
 /// Every second address is allocated, with itself as its value.
 const OF_MAPS: [Calls<RangeMap<u64>>; 5] = [
-    |map, at| map.get(at) == Some((one(at), &at)) && map.get_mut(at + 1).is_none(),
+    |map, at| map.get(at) == Some((one(at), &at)) && map.get_mut(at).is_some(),
     |map, at| {
         let (near, last) = (
             map.held_ranges_in(at..at + 2),

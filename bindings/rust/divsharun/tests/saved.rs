@@ -9,7 +9,7 @@ mod refusing;
 
 use divsharun::{
     AddressAllocator, AllocPolicy, Constraint, DeviceManager, DeviceSlot, IdAllocator, NodeState,
-    RangeInclusive, RangeMap, Strict, TryError,
+    RangeInclusive, RangeMap, Saved, Strict, TryError,
 };
 use refusing::{peak_of, refusing};
 use serde::de::value::{Error, MapDeserializer};
@@ -18,6 +18,9 @@ use serde::{Deserialize, Serialize};
 use serde_json::Value;
 use std::cell::Cell;
 use std::collections::BTreeMap;
+use std::fmt::Debug;
+use std::hash::Hash;
+use std::ops::DerefMut;
 
 const FRESH: &str = concat!(
     r#"{"address_space":{"start":16,"end":19},"interval_tree":{"root":"#,
@@ -947,6 +950,30 @@ fn a_strict_read_accepts_balanced_trees_of_whole_blocks() {
 
 fn strict(text: &str) -> serde_json::Result<AddressAllocator> {
     serde_json::from_str::<Strict<_>>(text).map(Strict::into_inner)
+}
+
+/// Names the types for serde with their traits.
+#[test]
+fn types_for_serde_have_their_traits() {
+    fn values<T: Copy + Default + Ord + Hash + Debug + DerefMut + From<u64> + Serialize>() {}
+    values::<Strict<u64>>();
+    fn views<T: Debug + Serialize + Send + Sync>() {}
+    views::<Saved<'_, AddressAllocator>>();
+    views::<Saved<'_, DeviceManager>>();
+    fn saved<T: Serialize + DeserializeOwned>() {}
+    saved::<(
+        RangeInclusive,
+        NodeState,
+        AllocPolicy,
+        Constraint,
+        DeviceSlot,
+    )>();
+    saved::<(
+        IdAllocator,
+        DeviceManager,
+        RangeMap<u64>,
+        Strict<AddressAllocator>,
+    )>();
 }
 
 /// Checks that a missing subtree of 1000 ranges is an error for `Strict` wherever it is, and not without it.
