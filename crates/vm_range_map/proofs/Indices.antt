@@ -6,7 +6,7 @@ use Rattle.std.specs.FinMap as map
 use Rattle.vm_list.specs.Entries.{entry_at}
 use Rattle.vm_range_map.specs.declared.range_map.value_table.ValueAt.{ValueAt}
 use Rattle.vm_range_map.specs.Checks.{value_of, values_of, value_in, AreIndexed}
-use Rattle.vm_range_map.proofs.Tables.{with_here, with_other, without_here, without_other, same_table, same_or_not, got}
+use Rattle.vm_range_map.proofs.Tables.{get_with, get_without, with_here, with_other, without_here, without_other, same_table, same_or_not, got}
 
 module _ {X : Type 0} where
   -- The start of an item, its key.
@@ -121,15 +121,7 @@ module _ {X : Type 0} where
           let t = i.there s j g in cc (sym t.1 ∙ ap (λ (k : ℕ). slice_get vs k) e ∙ past)
 
       added_found : (j : ℕ) (v : ValueAt X) → slice_get new j ≡ Some v → map.get more v.start ≡ Some j
-      added_found j v h =
-          ⊎_elim
-          (λ (e : j ≡ n).
-          let same : item ≡ v = cc (sym here ∙ ap (λ (k : ℕ). slice_get new k) (sym e) ∙ h) in
-          ap (λ (u : ValueAt X). map.get more u.start) (sym same) ∙ with_here indices item.start n ∙ ap (λ (k : ℕ). Some k) (sym e))
-          (λ (d : j ≢ n).
-          let old = i.found j v (sym (others j d) ∙ h) in
-          with_other indices item.start n v.start (not_there v.start item.start j old none) ∙ old)
-          (same_or_not j n)
+      added_found j v h = grind (arith, h, here, none, others j, i.found j v, get_with indices item.start n v.start)
 
       added_there : (s j : ℕ) → map.get more s ≡ Some j → (v : ValueAt X) × (slice_get new j ≡ Some v) × (v.start ≡ s)
       added_there s j h =
@@ -146,21 +138,16 @@ module _ {X : Type 0} where
       pub added : AreIndexed more new
       added = record { found = added_found; there = added_there }
 
-      added_value : (q : ℕ) (o : Option ℕ) → map.get indices q ≡ o → q ≢ item.start → value_in new o ≡ value_in vs o
-      added_value q None g d = refl
-      added_value q (Some j) g d = ap (λ (u : Option (ValueAt X)). option_map value_of u) (others j (not_past q j g))
+      added_value : (q : ℕ) (o : Option ℕ) → map.get indices q ≡ o →
+          value_in new (map.get more q) ≡ map.get (map.insert (values_of vs) item.start item.value) q
+      added_value q None g =
+          grind (arith, g, here, get_with indices item.start n q, get_with (values_of vs) item.start item.value q, got_value indices vs i q)
+      added_value q (Some j) g =
+          let same = others j (not_past q j g) in
+          grind (arith, g, here, same, get_with indices item.start n q, get_with (values_of vs) item.start item.value q, got_value indices vs i q)
 
       pub values_added : values_of new ≡ map.insert (values_of vs) item.start item.value
-      values_added = same_values more new added (map.insert (values_of vs) item.start item.value) (λ q.
-          ⊎_elim
-          (λ (e : q ≡ item.start).
-          ap (λ (s : ℕ). value_in new (map.get more s)) e ∙ ap (λ (o : Option ℕ). value_in new o) (with_here indices item.start n)
-          ∙ ap (λ (u : Option (ValueAt X)). option_map value_of u) here
-          ∙ sym (ap (λ (s : ℕ). map.get (map.insert (values_of vs) item.start item.value) s) e ∙ with_here (values_of vs) item.start item.value))
-          (λ (d : q ≢ item.start).
-          ap (λ (o : Option ℕ). value_in new o) (with_other indices item.start n q d) ∙ added_value q (map.get indices q) refl d
-          ∙ sym (with_other (values_of vs) item.start item.value q d ∙ got_value indices vs i q))
-          (same_or_not q item.start))
+      values_added = same_values more new added _ (λ q. added_value q (map.get indices q) refl)
 
     -- ---- The items other than one keep their indices
     module _ (k : ℕ) (old : ValueAt X) (at : slice_get vs k ≡ Some old) (others : (j : ℕ) → j ≢ k → slice_get new j ≡ slice_get vs j) where
@@ -187,13 +174,7 @@ module _ {X : Type 0} where
         -- At the same start, the indices stay.
         module _ (same : item.start ≡ old.start) where
           written_found : (j : ℕ) (v : ValueAt X) → slice_get new j ≡ Some v → map.get indices v.start ≡ Some j
-          written_found j v h =
-              ⊎_elim
-              (λ (e : j ≡ k).
-              let is : item ≡ v = cc (sym here ∙ ap (λ (m : ℕ). slice_get new m) (sym e) ∙ h) in
-              ap (λ (u : ValueAt X). map.get indices u.start) (sym is) ∙ ap (λ (s : ℕ). map.get indices s) same ∙ index ∙ ap (λ (m : ℕ). Some m) (sym e))
-              (λ (d : j ≢ k). i.found j v (sym (others j d) ∙ h))
-              (same_or_not j k)
+          written_found j v h = grind (arith, h, here, same, index, others j, i.found j v)
 
           written_there : (s j : ℕ) → map.get indices s ≡ Some j → (v : ValueAt X) × (slice_get new j ≡ Some v) × (v.start ≡ s)
           written_there s j h =
@@ -207,17 +188,15 @@ module _ {X : Type 0} where
           pub written : AreIndexed indices new
           written = record { found = written_found; there = written_there }
 
+          written_value : (q : ℕ) (o : Option ℕ) → map.get indices q ≡ o →
+              value_in new (map.get indices q) ≡ map.get (map.insert (values_of vs) old.start item.value) q
+          written_value q None g = grind (arith, g, index, get_with (values_of vs) old.start item.value q, got_value indices vs i q)
+          written_value q (Some j) g =
+              let others = other_value q (Some j) g in
+              grind (arith, g, here, index, others, get_with (values_of vs) old.start item.value q, got_value indices vs i q)
+
           pub values_written : values_of new ≡ map.insert (values_of vs) old.start item.value
-          values_written = same_values indices new written (map.insert (values_of vs) old.start item.value) (λ q.
-              ⊎_elim
-              (λ (e : q ≡ old.start).
-              ap (λ (s : ℕ). value_in new (map.get indices s)) e ∙ ap (λ (o : Option ℕ). value_in new o) index
-              ∙ ap (λ (u : Option (ValueAt X)). option_map value_of u) here
-              ∙ sym (ap (λ (s : ℕ). map.get (map.insert (values_of vs) old.start item.value) s) e ∙ with_here (values_of vs) old.start item.value))
-              (λ (d : q ≢ old.start).
-              other_value q (map.get indices q) refl d
-              ∙ sym (with_other (values_of vs) old.start item.value q d ∙ got_value indices vs i q))
-              (same_or_not q old.start))
+          values_written = same_values indices new written _ (λ q. written_value q (map.get indices q) refl)
 
         -- At another start, the index moves there.
         module _ (none : map.get indices item.start ≡ None) where
@@ -235,14 +214,7 @@ module _ {X : Type 0} where
 
           moved_found : (j : ℕ) (v : ValueAt X) → slice_get new j ≡ Some v → map.get moved_indices v.start ≡ Some j
           moved_found j v h =
-              ⊎_elim
-              (λ (e : j ≡ k).
-              let is : item ≡ v = cc (sym here ∙ ap (λ (m : ℕ). slice_get new m) (sym e) ∙ h) in
-              ap (λ (u : ValueAt X). map.get moved_indices u.start) (sym is) ∙ moved_here ∙ ap (λ (m : ℕ). Some m) (sym e))
-              (λ (d : j ≢ k).
-              let was = i.found j v (sym (others j d) ∙ h) in
-              moved_other v.start (other_index v.start old.start j k was index d) (not_there v.start item.start j was none) ∙ was)
-              (same_or_not j k)
+              grind (arith, h, here, none, index, others j, i.found j v, get_without (map.insert indices item.start k) old.start v.start, get_with indices item.start k v.start)
 
           moved_there : (s j : ℕ) → map.get moved_indices s ≡ Some j → (v : ValueAt X) × (slice_get new j ≡ Some v) × (v.start ≡ s)
           moved_there s j h =
@@ -262,27 +234,13 @@ module _ {X : Type 0} where
           abbrev moved_values : map.FinMap nat_cmp X
           moved_values = map.insert (map.remove (values_of vs) old.start) item.start item.value
 
+          moved_value : (q : ℕ) (o : Option ℕ) → map.get indices q ≡ o → value_in new (map.get moved_indices q) ≡ map.get moved_values q
+          moved_value q o g =
+              let others = other_value q o g in
+              grind (arith, g, here, index, apart, others, get_without (map.insert indices item.start k) old.start q, get_with indices item.start k q, get_with (map.remove (values_of vs) old.start) item.start item.value q, get_without (values_of vs) old.start q, got_value indices vs i q)
+
           pub values_moved : values_of new ≡ moved_values
-          values_moved = same_values moved_indices new moved moved_values (λ q.
-              ⊎_elim
-              (λ (e : q ≡ item.start).
-              ap (λ (s : ℕ). value_in new (map.get moved_indices s)) e ∙ ap (λ (o : Option ℕ). value_in new o) moved_here
-              ∙ ap (λ (u : Option (ValueAt X)). option_map value_of u) here
-              ∙ sym (ap (λ (s : ℕ). map.get moved_values s) e ∙ with_here (map.remove (values_of vs) old.start) item.start item.value))
-              (λ (d : q ≢ item.start).
-              ⊎_elim
-              (λ (e : q ≡ old.start).
-              ap (λ (s : ℕ). value_in new (map.get moved_indices s)) e
-              ∙ ap (λ (o : Option ℕ). value_in new o) (without_here (map.insert indices item.start k) old.start)
-              ∙ sym (ap (λ (s : ℕ). map.get moved_values s) e
-              ∙ with_other (map.remove (values_of vs) old.start) item.start item.value old.start (λ f. apart (sym f))
-              ∙ without_here (values_of vs) old.start))
-              (λ (f : q ≢ old.start).
-              ap (λ (o : Option ℕ). value_in new o) (moved_other q f d) ∙ other_value q (map.get indices q) refl f
-              ∙ sym (with_other (map.remove (values_of vs) old.start) item.start item.value q d ∙ without_other (values_of vs) old.start q f
-              ∙ got_value indices vs i q))
-              (same_or_not q old.start))
-              (same_or_not q item.start))
+          values_moved = same_values moved_indices new moved moved_values (λ q. moved_value q (map.get indices q) refl)
 
       -- ---- The item is the last one, and is taken out
       module _ (past : slice_get new k ≡ None) where
@@ -290,10 +248,7 @@ module _ {X : Type 0} where
         fewer = map.remove indices old.start
 
         cut_found : (j : ℕ) (v : ValueAt X) → slice_get new j ≡ Some v → map.get fewer v.start ≡ Some j
-        cut_found j v h =
-            let d : j ≢ k = λ e. cc (sym past ∙ ap (λ (m : ℕ). slice_get new m) (sym e) ∙ h) in
-            let was = i.found j v (sym (others j d) ∙ h) in
-            without_other indices old.start v.start (other_index v.start old.start j k was index d) ∙ was
+        cut_found j v h = grind (arith, h, past, index, others j, i.found j v, get_without indices old.start v.start)
 
         cut_there : (s j : ℕ) → map.get fewer s ≡ Some j → (v : ValueAt X) × (slice_get new j ≡ Some v) × (v.start ≡ s)
         cut_there s j h =
@@ -303,16 +258,14 @@ module _ {X : Type 0} where
         pub cut : AreIndexed fewer new
         cut = record { found = cut_found; there = cut_there }
 
+        cut_value : (q : ℕ) (o : Option ℕ) → map.get indices q ≡ o →
+            value_in new (map.get fewer q) ≡ map.get (map.remove (values_of vs) old.start) q
+        cut_value q o g =
+            let others = other_value q o g in
+            grind (arith, g, others, get_without indices old.start q, get_without (values_of vs) old.start q, got_value indices vs i q)
+
         pub values_cut : values_of new ≡ map.remove (values_of vs) old.start
-        values_cut = same_values fewer new cut (map.remove (values_of vs) old.start) (λ q.
-            ⊎_elim
-            (λ (e : q ≡ old.start).
-            ap (λ (s : ℕ). value_in new (map.get fewer s)) e ∙ ap (λ (o : Option ℕ). value_in new o) (without_here indices old.start)
-            ∙ sym (ap (λ (s : ℕ). map.get (map.remove (values_of vs) old.start) s) e ∙ without_here (values_of vs) old.start))
-            (λ (d : q ≢ old.start).
-            ap (λ (o : Option ℕ). value_in new o) (without_other indices old.start q d) ∙ other_value q (map.get indices q) refl d
-            ∙ sym (without_other (values_of vs) old.start q d ∙ got_value indices vs i q))
-            (same_or_not q old.start))
+        values_cut = same_values fewer new cut _ (λ q. cut_value q (map.get indices q) refl)
 
     -- ---- The last item takes the place of one that is taken out
     module _ (k n : ℕ) (old last : ValueAt X) (apart : k ≢ n) (at : slice_get vs k ≡ Some old) (end : slice_get vs n ≡ Some last)
@@ -342,15 +295,7 @@ module _ {X : Type 0} where
 
       swapped_found : (j : ℕ) (v : ValueAt X) → slice_get new j ≡ Some v → map.get swapped_indices v.start ≡ Some j
       swapped_found j v h =
-          let e_n : j ≢ n = λ e. cc (sym past ∙ ap (λ (m : ℕ). slice_get new m) (sym e) ∙ h) in
-          ⊎_elim
-          (λ (e : j ≡ k).
-          let is : last ≡ v = cc (sym here ∙ ap (λ (m : ℕ). slice_get new m) (sym e) ∙ h) in
-          ap (λ (u : ValueAt X). map.get swapped_indices u.start) (sym is) ∙ swapped_here ∙ ap (λ (m : ℕ). Some m) (sym e))
-          (λ (d : j ≢ k).
-          let was = i.found j v (sym (others j d e_n) ∙ h) in
-          swapped_other v.start (other_index v.start old.start j k was out_index d) (other_index v.start last.start j n was end_index e_n) ∙ was)
-          (same_or_not j k)
+          grind (arith, h, here, past, out_index, end_index, others j, i.found j v, get_with (map.remove indices old.start) last.start k v.start, get_without indices old.start v.start)
 
       not_swapped : (s j : ℕ) → map.get swapped_indices s ≡ Some j → s ≢ old.start
       not_swapped s j h e = cc (sym swapped_out ∙ ap (λ (q : ℕ). map.get swapped_indices q) (sym e) ∙ h)
@@ -383,24 +328,14 @@ module _ {X : Type 0} where
       swapped_value q (Some j) g a b =
           ap (λ (u : Option (ValueAt X)). option_map value_of u) (others j (item_apart q j k old g at a) (item_apart q j n last g end b))
 
+      all_values : (q : ℕ) (o : Option ℕ) → map.get indices q ≡ o →
+          value_in new (map.get swapped_indices q) ≡ map.get (map.remove (values_of vs) old.start) q
+      all_values q o g =
+          let others = swapped_value q o g in
+          grind (arith, g, here, end, end_index, starts_apart, others, get_with (map.remove indices old.start) last.start k q, get_without indices old.start q, get_without (values_of vs) old.start q, got_value indices vs i q)
+
       pub values_swapped : values_of new ≡ map.remove (values_of vs) old.start
-      values_swapped = same_values swapped_indices new swapped (map.remove (values_of vs) old.start) (λ q.
-          ⊎_elim
-          (λ (e : q ≡ old.start).
-          ap (λ (s : ℕ). value_in new (map.get swapped_indices s)) e ∙ ap (λ (o : Option ℕ). value_in new o) swapped_out
-          ∙ sym (ap (λ (s : ℕ). map.get (map.remove (values_of vs) old.start) s) e ∙ without_here (values_of vs) old.start))
-          (λ (d : q ≢ old.start).
-          ⊎_elim
-          (λ (e : q ≡ last.start).
-          ap (λ (s : ℕ). value_in new (map.get swapped_indices s)) e ∙ ap (λ (o : Option ℕ). value_in new o) swapped_here
-          ∙ ap (λ (u : Option (ValueAt X)). option_map value_of u) here
-          ∙ sym (ap (λ (s : ℕ). map.get (map.remove (values_of vs) old.start) s) e
-          ∙ without_other (values_of vs) old.start last.start starts_apart ∙ value_here indices vs i last.start n last end_index end))
-          (λ (f : q ≢ last.start).
-          ap (λ (o : Option ℕ). value_in new o) (swapped_other q d f) ∙ swapped_value q (map.get indices q) refl d f
-          ∙ sym (without_other (values_of vs) old.start q d ∙ got_value indices vs i q))
-          (same_or_not q last.start))
-          (same_or_not q old.start))
+      values_swapped = same_values swapped_indices new swapped _ (λ q. all_values q (map.get indices q) refl)
 
 -- A list without items has no index.
 pub nothing_indexed : {X : Type 0} → AreIndexed {X = X} map.empty []

@@ -7,21 +7,7 @@ use Rattle.vm_ranges.specs.declared.error.Error.{Error}
 use Rattle.vm_ranges.specs.declared.error.Error.TheVariants.{OutOfMemory}
 use Rattle.vm_addresses.proofs.Histories.MoveSteps.{moves_once}
 use Rattle.vm_addresses.proofs.Results.InMemory.{placed_once, made_once}
-use Rattle.vm_range_map.specs.RangeMaps.{
-  MapState,
-  IsMapState,
-  with_value,
-  with_moved,
-  with_table,
-  MakesMap,
-  GivesValue,
-  AllocatesWith,
-  FreesWith,
-  IsValueAt,
-  SetsValue,
-  MovesValue,
-  MovesWith,
-}
+use Rattle.vm_range_map.specs.RangeMaps.{MapState, IsMapState, with_value, with_moved, with_table, MakesMap, GivesValue, AllocatesWith, FreesWith, IsValueAt, SetsValue, MovesValue, MovesWith}
 use Rattle.vm_range_map.specs.Laws.{MapsDecide}
 use Rattle.vm_range_map.proofs.HeldRanges.{missed, one_at}
 use Rattle.vm_range_map.proofs.KeptValues.{one_value, at_its_addresses}

@@ -10,23 +10,7 @@ use Rattle.vm_range_map.specs.declared.range_map.value_table.ValueAt.{ValueAt}
 use Rattle.vm_range_map.specs.declared.range_map.value_table.IndexAt.{IndexAt}
 use Rattle.vm_range_map.specs.Checks.{start_of, indices_of, values_of, renumbered, IsKnownAt, AreIndexed}
 use Rattle.vm_range_map.proofs.Tables.{got, get_without, put_table, taken_table, same_table, same_or_not}
-use Rattle.vm_range_map.proofs.Indices.{
-  value_here,
-  no_value,
-  no_index,
-  some_index,
-  other_index,
-  added,
-  values_added,
-  written,
-  values_written,
-  moved,
-  values_moved,
-  cut,
-  values_cut,
-  swapped,
-  values_swapped,
-}
+use Rattle.vm_range_map.proofs.Indices.{value_here, no_value, no_index, some_index, other_index, added, values_added, written, values_written, moved, values_moved, cut, values_cut, swapped, values_swapped}
 
 module _ {Y : Type 0} where
   -- ---- An item that is added at the end

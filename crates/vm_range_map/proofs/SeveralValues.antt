@@ -1,43 +1,5 @@
 -- Tables and maps after several ranges got their values.
-use Rattle.std.proofs.Common.{
-  ◌≡◌,
-  ◌≢◌,
-  ◌↔◌,
-  ◌⊎◌,
-  ℕ,
-  zero,
-  suc,
-  ◌+◌,
-  ◌<◌,
-  ◌≤◌,
-  List,
-  [],
-  ◌∷◌,
-  length,
-  drop,
-  get_or,
-  ◌++◌,
-  length-append,
-  length-drop,
-  Option,
-  Some,
-  None,
-  IsSome,
-  is_some,
-  MatchOption,
-  Result,
-  Ok,
-  Err,
-  arith,
-  refl,
-  sym,
-  ap,
-  ◌∙◌,
-  subst,
-  inl,
-  inr,
-  ⊎_elim,
-}
+use Rattle.std.proofs.Common.{◌≡◌, ◌≢◌, ◌↔◌, ◌⊎◌, ℕ, zero, suc, ◌+◌, ◌<◌, ◌≤◌, List, [], ◌∷◌, length, drop, get_or, ◌++◌, length-append, length-drop, Option, Some, None, IsSome, is_some, MatchOption, Result, Ok, Err, arith, refl, sym, ap, ◌∙◌, subst, inl, inr, ⊎_elim}
 use Rattle.std.proofs.Math.Seq.{drop-cons}
 use Rattle.std.specs.Prelude.{if◌then◌else◌}
 use Rattle.std.specs.List.{Contains}
@@ -168,14 +130,7 @@ module _ {X : Type 0} where
   -- ---- Allocations one after the other
   swapped : (m : map.FinMap nat_cmp X) (k j : ℕ) (v w : X) → k ≢ j → map.insert (map.insert m k v) j w ≡ map.insert (map.insert m j w) k v
   swapped m k j v w n =
-      same_table _ _ (λ q. grind (
-        arith,
-        n,
-        get_with (map.insert m k v) j w q,
-        get_with m k v q,
-        get_with (map.insert m j w) k v q,
-        get_with m j w q,
-      ))
+      same_table _ _ (λ q. grind (arith, n, get_with (map.insert m k v) j w q, get_with m k v q, get_with (map.insert m j w) k v q, get_with m j w q))
 
   -- A value that is inserted first can be inserted last.
   first_or_last : (m : map.FinMap nat_cmp X) (k : ℕ) (v : X) (rs : List Range) (vs : List X) → ((q : Range) → Contains rs q → q.start ≢ k) →

@@ -54,13 +54,7 @@ module _ {E X : Type 0} (key_of : E → ℕ) (value_of : E → X) where
   -- An entry that is put into the list is inserted into the table.
   pub put_table : (e : E) (es : List E) → table_of (with_entry key_of e es) ≡ map.insert (table_of es) (key_of e) (value_of e)
   put_table e es =
-      same_table _ _ (λ q. grind (
-        arith,
-        got q (with_entry key_of e es),
-        got q es,
-        (entries_are_by_key key_of).put e es q,
-        get_with (table_of es) (key_of e) (value_of e) q,
-      ))
+      same_table _ _ (λ q. grind (arith, got q (with_entry key_of e es), got q es, (entries_are_by_key key_of).put e es q, get_with (table_of es) (key_of e) (value_of e) q))
 
   -- A key that is taken out of the list is removed from the table.
   pub taken_table : (k : ℕ) (es : List E) → table_of (without key_of k es) ≡ map.remove (table_of es) k
