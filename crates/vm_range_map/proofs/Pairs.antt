@@ -85,22 +85,6 @@ module _ {X : Type 0} (vs : List (ValueAt X)) where
     pair_pushed (q ∷ rs) (f ∷ es) m = after q (slice_get vs f.index) _ _ _ (pair_pushed rs es m.1)
 
   module _ (all rs : List Range) (every es : List IndexAt) (r : Range) (e : IndexAt) (m : AreMatched vs all every) where
-    -- The first pair is that of the first range and the first entry.
-    module _ (s : all ≡ r ∷ rs) (t : every ≡ e ∷ es) where
-      matched_first : AreMatched vs (r ∷ rs) (e ∷ es)
-      matched_first = subst (λ (xs : List IndexAt). AreMatched vs (r ∷ rs) xs) t (subst (λ (xs : List Range). AreMatched vs xs every) s m)
-
-      pub first_within : e.index < length vs
-      first_within = matched_first.0
-
-      pub first_left : AreMatched vs rs es
-      first_left = matched_first.1
-
-      pub pair_first : (value : X) → Some value ≡ option_map value_of (slice_get vs e.index) → pair_up vs all every ≡ (r, value) ∷ pair_up vs rs es
-      pair_first value h =
-          ap (λ (xs : List Range). pair_up vs xs every) s ∙ ap (λ (xs : List IndexAt). pair_up vs (r ∷ rs) xs) t
-          ∙ pair_of_value r (slice_get vs e.index) value (pair_up vs rs es) h
-
     -- The last pair is that of the last range and the last entry.
     module _ (s : all ≡ rs ++ r ∷ []) (t : every ≡ es ++ e ∷ []) where
       matched_last : AreMatched vs (rs ++ r ∷ []) (es ++ e ∷ [])

@@ -77,10 +77,6 @@ module _ {X : Type 0} where
     pub next_new : (m : map.FinMap nat_cmp X) (vs : List X) → AreNewStarts m rs → map.get (with_values m (drop (at + 1) rs) vs) r.start ≡ None
     next_new m vs n = first_new m r (drop (at + 1) rs) vs (subst (λ (v : List Range). AreNewStarts m v) (cut_first rs at r l is) (last_new m rs at n))
 
-    pub next_inserted : (m : map.FinMap nat_cmp X) (v : X) (vs : List X) →
-        map.insert (with_values m (drop (at + 1) rs) vs) r.start v ≡ with_values m (drop at rs) (v ∷ vs)
-    next_inserted m v vs = rw (cut_first rs at r l is) refl
-
   -- The values that are not left are those of the last ranges.
   pub last_inserted : (m after : map.FinMap nat_cmp X) (rs : List Range) (vs left others : List X) (n k : ℕ) → length rs ≡ length vs →
       vs ≡ left ++ others → k ≡ length left → k ≡ n → AreNewStarts m rs → after ≡ with_values m (drop k rs) others →

@@ -24,9 +24,6 @@ module _ {X : Type 0} where
   pub without_here : (m : map.FinMap nat_cmp X) (k : ℕ) → map.get (map.remove m k) k ≡ None
   without_here m k = let at = get_without m k k in grind (arith, at)
 
-  pub without_other : (m : map.FinMap nat_cmp X) (k q : ℕ) → q ≢ k → map.get (map.remove m k) q ≡ map.get m q
-  without_other m k q n = let at = get_without m k q in grind (arith, at, n)
-
   -- Tables with the same value at each key are equal.
   pub same_table : (m n : map.FinMap nat_cmp X) → ((q : ℕ) → map.get m q ≡ map.get n q) → m ≡ n
   same_table m n h = map.same_map nat_cmp_total map.nat_cmp-IsAntisymmetric m n h
