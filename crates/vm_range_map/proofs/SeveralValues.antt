@@ -210,7 +210,7 @@ no_index i lo hi (r ∷ rs) e =
     (no_index (i + 1) (r.end + 1) hi rs)
 
 -- The result with these ranges, if the first of them that cannot be held has the fault o.
-abbrev MakesBy : Option Error → Type 0 → AddressState → Result AddressState Error → Type 0
+abbrev pub MakesBy : Option Error → Type 0 → AddressState → Result AddressState Error → Type 0
 MakesBy o many state answer =
     MatchOption o (IfElse many (answer ≡ Err Overflow) ((answer ≡ Ok state) ⊎ (answer ≡ Err OutOfMemory))) (λ fault. answer ≡ Err fault)
 
