@@ -1,11 +1,12 @@
 -- The values in a list in no order, found by their indices, are those of the table.
-use Rattle.std.proofs.Common.{◌≡◌, ◌≢◌, ◌==◌, ℕ, zero, suc, Bool, true, false, cond, List, [], ◌∷◌, nat_eq, refl, sym, ap, ◌∙◌, arith, subst, ⊎_elim, Option, Some, None, IsSome, option_map}
+use Rattle.std.proofs.Common.{◌≡◌, ◌≢◌, ◌↔◌, ◌==◌, ℕ, zero, suc, Bool, true, false, cond, List, [], ◌∷◌, nat_eq, refl, sym, ap, ◌∙◌, arith, subst, ⊎_elim, Option, Some, None, IsSome, option_map}
 use Rattle.std.specs.List.{slice_get}
 use Rattle.std.specs.Ordering.{nat_cmp}
 use Rattle.std.specs.FinMap as map
 use Rattle.vm_list.specs.Entries.{entry_at}
 use Rattle.vm_range_map.specs.declared.range_map.value_table.ValueAt.{ValueAt}
 use Rattle.vm_range_map.specs.Checks.{value_of, values_of, value_in, AreIndexed}
+use Rattle.vm_range_map.proofs.MapStates.{absent}
 use Rattle.vm_range_map.proofs.Tables.{get_with, get_without, same_table, same_or_not, got}
 
 module _ {X : Type 0} where
@@ -73,28 +74,16 @@ module _ {X : Type 0} where
     pub no_value : (q : ℕ) → map.get indices q ≡ None → map.get (values_of vs) q ≡ None
     no_value q a = got_value q ∙ ap (λ (o : Option ℕ). value_in vs o) a
 
-    index_or_none : (q : ℕ) (o : Option ℕ) → map.get indices q ≡ o → map.get (values_of vs) q ≡ None → o ≡ None
-    index_or_none q None a h = refl
-    index_or_none q (Some k) a h = let t = i.there q k a in absurd (cc (h, value_here q k t.0 a t.1))
-
-    -- A start without a value has no index.
-    pub no_index : (q : ℕ) → map.get (values_of vs) q ≡ None → map.get indices q ≡ None
-    no_index q h = index_or_none q (map.get indices q) refl h
+    both_or_none : (q : ℕ) (o : Option ℕ) → map.get indices q ≡ o → IsSome (map.get (values_of vs) q) ↔ IsSome o
+    both_or_none q None a = (λ s. absurd (cc (s, no_value q a)), λ s. absurd (cc (s)))
+    both_or_none q (Some k) a = let t = i.there q k a in (λ _. refl, λ _. rw (value_here q k t.0 a t.1) refl)
 
     -- A start has an index if and only if it has a value.
-    some_index_of : (q : ℕ) (o : Option ℕ) → map.get indices q ≡ o → IsSome (map.get (values_of vs) q) → IsSome o
-    some_index_of q None a s = absurd (cc (s, no_value q a))
-    some_index_of q (Some k) a s = refl
+    pub same_starts : (q : ℕ) → IsSome (map.get (values_of vs) q) ↔ IsSome (map.get indices q)
+    same_starts q = both_or_none q (map.get indices q) refl
 
-    pub some_index : (q : ℕ) → IsSome (map.get (values_of vs) q) → IsSome (map.get indices q)
-    some_index q s = some_index_of q (map.get indices q) refl s
-
-    some_value_of : (q : ℕ) (o : Option ℕ) → map.get indices q ≡ o → IsSome o → IsSome (map.get (values_of vs) q)
-    some_value_of q None a s = absurd (cc (s))
-    some_value_of q (Some k) a s = let t = i.there q k a in rw (value_here q k t.0 a t.1) refl
-
-    pub some_of_index : (q : ℕ) → IsSome (map.get indices q) → IsSome (map.get (values_of vs) q)
-    some_of_index q s = some_value_of q (map.get indices q) refl s
+    pub no_index : (q : ℕ) → map.get (values_of vs) q ≡ None → map.get indices q ≡ None
+    no_index q h = absent (map.get indices q) (λ s. let some = (same_starts q).1 s in cc (some, h))
 
     -- The table is that of other indices and items if it has their values.
     same_values : (m : map.FinMap nat_cmp X) → ((q : ℕ) → value_in vs (map.get indices q) ≡ map.get m q) → values_of vs ≡ m

@@ -15,7 +15,7 @@ use Rattle.vm_range_map.specs.RangeMaps.{MapState, map_of, IsMapState}
 use Rattle.vm_range_map.specs.Queries.{valued_in, valued_ranges}
 use Rattle.vm_range_map.specs.Checks.{entry_of, value_of, values_of, pair_up, AreIndexed, AreListed, AreMatched}
 use Rattle.vm_range_map.proofs.MapStates.{some_value}
-use Rattle.vm_range_map.proofs.Indices.{value_here, some_index, some_of_index}
+use Rattle.vm_range_map.proofs.Indices.{value_here, same_starts}
 use Rattle.vm_range_map.proofs.ValuedLists.{pair_in, entries_held}
 
 -- An item within the list is there.
@@ -132,8 +132,8 @@ module _ {X : Type 0} (vs : List (ValueAt X)) where
     index_state space s = record {
       space = s.space;
       starts = λ q. (
-        λ h. (s.starts q).0 (some_of_index indices vs i q h),
-        λ h. some_index indices vs i q ((s.starts q).1 h),
+        λ h. (s.starts q).0 ((same_starts indices vs i q).1 h),
+        λ h. (same_starts indices vs i q).0 ((s.starts q).1 h),
       );
     }
 

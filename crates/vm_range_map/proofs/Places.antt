@@ -10,7 +10,7 @@ use Rattle.vm_range_map.specs.declared.range_map.value_table.ValueAt.{ValueAt}
 use Rattle.vm_range_map.specs.declared.range_map.value_table.IndexAt.{IndexAt}
 use Rattle.vm_range_map.specs.Checks.{start_of, indices_of, values_of, renumbered, IsKnownAt, AreIndexed}
 use Rattle.vm_range_map.proofs.Tables.{got, get_without, without_here, put_table, taken_table, same_table, same_or_not, moved_nowhere, moved_later, replaced_value, put_again, kept_value}
-use Rattle.vm_range_map.proofs.Indices.{value_here, no_value, no_index, some_index, other_index, added, values_added, moved, values_moved, cut, values_cut}
+use Rattle.vm_range_map.proofs.Indices.{value_here, no_value, no_index, same_starts, other_index, added, values_added, moved, values_moved, cut, values_cut}
 
 module _ {Y : Type 0} where
   -- ---- An item that is added at the end
@@ -128,7 +128,7 @@ module _ {X : Type 0} (es : List IndexAt) (vs : List (ValueAt X)) (i : AreIndexe
 
   -- A start with a value has an entry.
   pub entry_there : IsSome (map.get (values_of vs) s) → entry_at start_of s es ≡ None → ⊥
-  entry_there some h = let index = some_index (indices_of es) vs i s some in cc (index, entry_none h)
+  entry_there some h = let index = (same_starts (indices_of es) vs i s).0 some in cc (index, entry_none h)
 
 -- ---- The table after an item is added, replaced, moved or taken out
 -- The result of a call that succeeded, or failed.
