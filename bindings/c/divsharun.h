@@ -1348,6 +1348,10 @@ dvs_status dvs_range_map_visit_from(const dvs_range_map *map, uint64_t address,
 dvs_status dvs_range_map_visit_back(const dvs_range_map *map, uint64_t address,
                                     dvs_valued_range_visitor *visitor, void *context);
 
+/* Visits the gaps like dvs_gap_visit(). */
+dvs_status dvs_range_map_gap_visit(const dvs_range_map *map, dvs_range_visitor *visitor,
+                                   void *context);
+
 /* Creates a copy of the map, like dvs_address_allocator_copy(). */
 dvs_status dvs_range_map_copy(const dvs_range_map *map, dvs_range_map **copied) DVS_WARN_UNUSED;
 

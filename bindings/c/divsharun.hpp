@@ -210,12 +210,12 @@ class owner {
     }
 
     /* Calls `action` with each item until it returns false. An exception ends the visit. */
-    template <typename Call, typename Action, typename... Address>
+    template <typename One = Item, typename Call, typename Action, typename... Address>
     error visit_by(Call call, Action action, Address... address) const {
         struct visit {
             Action action;
             std::exception_ptr thrown;
-            static int one(void *context, Item item) {
+            static int one(void *context, One item) {
                 visit *self = static_cast<visit *>(context);
 #ifdef __cpp_exceptions
                 try {
@@ -236,9 +236,9 @@ class owner {
     }
 
     /* Replaces `items` by the items of a visit. An error leaves them unchanged. */
-    template <typename Call> error list_by(Call call, std::vector<Item> &items) const {
-        std::vector<Item> found;
-        error failed = visit_by(call, [&](Item item) { return found.push_back(item), true; });
+    template <typename Call, typename One> error list_by(Call call, std::vector<One> &items) const {
+        std::vector<One> found;
+        error failed = visit_by<One>(call, [&](One item) { return found.push_back(item), true; });
         if (!failed)
             items = std::move(found);
         return failed;
@@ -671,6 +671,12 @@ class range_map
     error ranges_in(dvs_range within, std::vector<dvs_valued_range> &ranges,
                     dvs_refusal *refusal = nullptr) const {
         return list_in(dvs_range_map_visit_in, within, ranges, refusal);
+    }
+    error gaps(std::vector<dvs_range> &gaps) const {
+        return list_by(dvs_range_map_gap_visit, gaps);
+    }
+    template <typename Action> error for_each_gap(Action action) const {
+        return visit_by<dvs_range>(dvs_range_map_gap_visit, std::move(action));
     }
     /* The ranges from an address upwards, or back from it downwards. */
     template <typename Action> error for_each_from(uint64_t address, Action action) const {

@@ -130,4 +130,5 @@ visits! {
     dvs_range_map_visit_back(map: dvs_range_map, address: u64) of dvs_valued_range {
         map.held_ranges_in(&at_or_below(map.addresses(), address)?).rev()
     }
+    dvs_range_map_gap_visit(map: dvs_range_map) of dvs_range { map.addresses().gaps() }
 }

@@ -513,7 +513,7 @@ static void reserve_given_ids(void) {
 static void *objects[GROUPS];
 
 static void make_objects(void) {
-    static const dvs_request lowest = {1, 1, 0, DVS_FIRST, 0, 0};
+    static const dvs_request lowest = {1, 2, 0, DVS_FIRST, 0, 0};
     dvs_device device;
     int i;
 
@@ -747,10 +747,10 @@ static const struct {
     {2, 1, {RESERVE_LAST, {1, 1}, GETS_DEVICE(0, 3, 3)}, false},
     {2, 1, {RELEASE, {0}, SUCCEEDS}, false},
     {2, 1, {RESERVE_FIRST, {1, 1}, GETS_DEVICE(0, 0, 0)}, true},
-    {3, 1, {MAP_SET, {1, 8}, GETS_NUMBER(7)}, false},
-    {3, 0, {MAP_SET, {1, 8}, GETS_NUMBER(7)}, true},
-    {3, 1, {MAP_FREE, {1, 1}, GETS_NUMBER(8)}, false},
-    {3, 0, {MAP_FREE, {1, 1}, GETS_NUMBER(8)}, true},
+    {3, 1, {MAP_SET, {2, 8}, GETS_NUMBER(7)}, false},
+    {3, 0, {MAP_SET, {2, 8}, GETS_NUMBER(7)}, true},
+    {3, 1, {MAP_FREE, {2, 2}, GETS_NUMBER(8)}, false},
+    {3, 0, {MAP_FREE, {2, 2}, GETS_NUMBER(8)}, true},
 };
 
 static void copy_objects(void) {

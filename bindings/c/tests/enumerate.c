@@ -912,7 +912,7 @@ static void make_map_with_held(void) {
 static void query_map(void) {
     static const dvs_request over = {8, 1, 18, DVS_EXACT, 0, 0};
     dvs_range_map *map = two_valued();
-    struct seen in = all_of(), from = all_of(), back = all_of();
+    struct seen in = all_of(), from = all_of(), back = all_of(), free = all_of();
     dvs_range gaps[MOST];
     dvs_refusal refusal;
     size_t count;
@@ -926,6 +926,8 @@ static void query_map(void) {
     CHECK(dvs_range_map_move_conflict(map, range_of(2, 1), &over, &refusal) == DVS_INVALID_RANGE);
     CHECK(dvs_range_map_gap_list(map, 22, gaps, MOST, &count) == DVS_OK && count == 2);
     CHECK(is_range(gaps[0], 20, 23) && is_range(gaps[1], 32, 39));
+    CHECK(dvs_range_map_gap_visit(map, see_range, &free) == DVS_OK && free.count == 2);
+    CHECK(memcmp(free.ranges, gaps, 2 * sizeof gaps[0]) == 0);
     CHECK(dvs_range_map_visit_in(map, range_of(19, 23), see_valued, &in, NULL) == DVS_OK);
     CHECK(in.count == 1 && in.ids[0] == 7 && is_range(in.ranges[0], 16, 19));
     CHECK(dvs_range_map_visit_in(map, range_of(3, 2), see_valued, &in, NULL) == DVS_INVALID_RANGE);

@@ -121,7 +121,8 @@ enum { MANY = 300 };
     CALL(VISIT_MAP, dvs_range_map_visit(seen_map, TO(*see_valued), given.context)) \
     CALL(MAP_VISIT_IN, dvs_range_map_visit_in(seen_map, range, TO(*see_valued), given.context, REFUSAL)) \
     CALL(MAP_VISIT_FROM, dvs_range_map_visit_from(seen_map, n[0], TO(*see_valued), given.context)) \
-    CALL(MAP_VISIT_BACK, dvs_range_map_visit_back(seen_map, n[1], TO(*see_valued), given.context))
+    CALL(MAP_VISIT_BACK, dvs_range_map_visit_back(seen_map, n[1], TO(*see_valued), given.context)) \
+    CALL(VISIT_MAP_GAPS, dvs_range_map_gap_visit(seen_map, visitor, given.context))
 /* clang-format on */
 
 #define NAME(name, call) name,

@@ -347,6 +347,8 @@ static void keep_several_values() {
     CHECK(!map.move_conflict({1, 2}, request::exact(3, 1, 2), refusal));
     CHECK(is_range(refusal.other, 4, 7));
     CHECK(!map.list_gaps(4, &gap, 1, count) && count == 1 && is_range(gap, 8, 13));
+    CHECK(!map.gaps(ranges) && ranges.size() == 2 && is_range(ranges[0], 3, 3));
+    CHECK(!map.for_each_gap([&](dvs_range one) { return gap = one, false; }) && gap.start == 3);
     CHECK(!map.ranges_in({2, 4}, all) && all.size() == 2 && all[0].value == 7);
     CHECK(map.ranges_in({2, 1}, all, &refusal) == DVS_INVALID_RANGE && all.size() == 2);
     const auto see = [&](dvs_valued_range one) { return values.push_back(one.value), true; };

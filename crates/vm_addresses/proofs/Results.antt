@@ -10,6 +10,7 @@ pub mod EveryAddressCall
 pub mod InMemory
 pub mod Moves
 pub mod Several
+pub mod SeveralOnce
 pub mod WindowResults
 pub mod Conflicts
 pub mod Holes

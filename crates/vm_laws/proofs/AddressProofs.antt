@@ -6,7 +6,6 @@ pub mod HistoryResults
 pub mod MovedRanges
 pub mod Releases
 pub mod SameCalls
-pub mod SeveralOnce
 pub mod Capacity
 pub mod HeldFaults
 pub mod HeldOnes

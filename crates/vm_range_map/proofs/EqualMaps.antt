@@ -1,33 +1,5 @@
 -- Maps are the same if and only if their spaces and the lists of their ranges with values are.
-use Rattle.std.proofs.Common.{
-  ◌≡◌,
-  ◌↔◌,
-  ◌&&◌,
-  ℕ,
-  Bool,
-  eqb,
-  true,
-  false,
-  IsTrue,
-  List,
-  [],
-  ◌∷◌,
-  Option,
-  Some,
-  None,
-  IsSome,
-  IfSome,
-  MatchOption,
-  option_map,
-  refl,
-  sym,
-  ap,
-  ◌∙◌,
-  subst,
-  inl,
-  inr,
-  ⊎_elim,
-}
+use Rattle.std.proofs.Common.{◌≡◌, ◌↔◌, ◌&&◌, ℕ, Bool, eqb, true, false, IsTrue, List, [], ◌∷◌, Option, Some, None, IsSome, IfSome, MatchOption, option_map, refl, sym, ap, ◌∙◌, subst, inl, inr, ⊎_elim}
 use Rattle.std.specs.List.{AllZip, Contains, cons_option, filter_map}
 use Rattle.std.specs.declared.cmp.Ordering.{Ordering}
 use Rattle.std.specs.declared.cmp.Ordering.TheVariants.{Less, Equal, Greater}

@@ -1,12 +1,13 @@
 -- The values in a list in no order, found by their indices, are those of the table.
-use Rattle.std.proofs.Common.{◌≡◌, ◌≢◌, ℕ, zero, suc, Bool, true, false, cond, List, [], ◌∷◌, nat_eq, refl, sym, ap, ◌∙◌, arith, subst, ⊎_elim, Option, Some, None, IsSome, option_map}
+use Rattle.std.proofs.Common.{◌≡◌, ◌≢◌, ◌↔◌, ◌==◌, ℕ, zero, suc, Bool, true, false, cond, List, [], ◌∷◌, nat_eq, refl, sym, ap, ◌∙◌, arith, subst, ⊎_elim, Option, Some, None, IsSome, option_map}
 use Rattle.std.specs.List.{slice_get}
 use Rattle.std.specs.Ordering.{nat_cmp}
 use Rattle.std.specs.FinMap as map
 use Rattle.vm_list.specs.Entries.{entry_at}
 use Rattle.vm_range_map.specs.declared.range_map.value_table.ValueAt.{ValueAt}
 use Rattle.vm_range_map.specs.Checks.{value_of, values_of, value_in, AreIndexed}
-use Rattle.vm_range_map.proofs.Tables.{with_here, with_other, without_here, without_other, same_table, same_or_not, got}
+use Rattle.vm_range_map.proofs.MapStates.{absent}
+use Rattle.vm_range_map.proofs.Tables.{get_with, get_without, same_table, same_or_not, got}
 
 module _ {X : Type 0} where
   -- The start of an item, its key.
@@ -73,28 +74,16 @@ module _ {X : Type 0} where
     pub no_value : (q : ℕ) → map.get indices q ≡ None → map.get (values_of vs) q ≡ None
     no_value q a = got_value q ∙ ap (λ (o : Option ℕ). value_in vs o) a
 
-    index_or_none : (q : ℕ) (o : Option ℕ) → map.get indices q ≡ o → map.get (values_of vs) q ≡ None → o ≡ None
-    index_or_none q None a h = refl
-    index_or_none q (Some k) a h = let t = i.there q k a in absurd (cc (h, value_here q k t.0 a t.1))
-
-    -- A start without a value has no index.
-    pub no_index : (q : ℕ) → map.get (values_of vs) q ≡ None → map.get indices q ≡ None
-    no_index q h = index_or_none q (map.get indices q) refl h
+    both_or_none : (q : ℕ) (o : Option ℕ) → map.get indices q ≡ o → IsSome (map.get (values_of vs) q) ↔ IsSome o
+    both_or_none q None a = (λ s. absurd (cc (s, no_value q a)), λ s. absurd (cc (s)))
+    both_or_none q (Some k) a = let t = i.there q k a in (λ _. refl, λ _. rw (value_here q k t.0 a t.1) refl)
 
     -- A start has an index if and only if it has a value.
-    some_index_of : (q : ℕ) (o : Option ℕ) → map.get indices q ≡ o → IsSome (map.get (values_of vs) q) → IsSome o
-    some_index_of q None a s = absurd (cc (s, no_value q a))
-    some_index_of q (Some k) a s = refl
+    pub same_starts : (q : ℕ) → IsSome (map.get (values_of vs) q) ↔ IsSome (map.get indices q)
+    same_starts q = both_or_none q (map.get indices q) refl
 
-    pub some_index : (q : ℕ) → IsSome (map.get (values_of vs) q) → IsSome (map.get indices q)
-    some_index q s = some_index_of q (map.get indices q) refl s
-
-    some_value_of : (q : ℕ) (o : Option ℕ) → map.get indices q ≡ o → IsSome o → IsSome (map.get (values_of vs) q)
-    some_value_of q None a s = absurd (cc (s))
-    some_value_of q (Some k) a s = let t = i.there q k a in rw (value_here q k t.0 a t.1) refl
-
-    pub some_of_index : (q : ℕ) → IsSome (map.get indices q) → IsSome (map.get (values_of vs) q)
-    some_of_index q s = some_value_of q (map.get indices q) refl s
+    pub no_index : (q : ℕ) → map.get (values_of vs) q ≡ None → map.get indices q ≡ None
+    no_index q h = absent (map.get indices q) (λ s. let some = (same_starts q).1 s in cc (some, h))
 
     -- The table is that of other indices and items if it has their values.
     same_values : (m : map.FinMap nat_cmp X) → ((q : ℕ) → value_in vs (map.get indices q) ≡ map.get m q) → values_of vs ≡ m
@@ -106,10 +95,6 @@ module _ {X : Type 0} where
     other_index a b j k g h n e =
         let same : Some j ≡ Some k = sym g ∙ ap (λ (s : ℕ). map.get indices s) e ∙ h in n (cc (same))
 
-    -- A start without an index is another start.
-    not_there : (a b j : ℕ) → map.get indices a ≡ Some j → map.get indices b ≡ None → a ≢ b
-    not_there a b j g h e = let same : Some j ≡ None = sym g ∙ ap (λ (s : ℕ). map.get indices s) e ∙ h in cc (same)
-
     -- ---- An item that is added at the end
     module _ (n : ℕ) (item : ValueAt X) (none : map.get indices item.start ≡ None) (past : slice_get vs n ≡ None)
         (here : slice_get new n ≡ Some item) (others : (j : ℕ) → j ≢ n → slice_get new j ≡ slice_get vs j) where
@@ -120,47 +105,31 @@ module _ {X : Type 0} where
       not_past s j g e =
           let t = i.there s j g in cc (sym t.1 ∙ ap (λ (k : ℕ). slice_get vs k) e ∙ past)
 
-      added_found : (j : ℕ) (v : ValueAt X) → slice_get new j ≡ Some v → map.get more v.start ≡ Some j
-      added_found j v h =
-          ⊎_elim
-          (λ (e : j ≡ n).
-          let same : item ≡ v = cc (sym here ∙ ap (λ (k : ℕ). slice_get new k) (sym e) ∙ h) in
-          ap (λ (u : ValueAt X). map.get more u.start) (sym same) ∙ with_here indices item.start n ∙ ap (λ (k : ℕ). Some k) (sym e))
-          (λ (d : j ≢ n).
-          let old = i.found j v (sym (others j d) ∙ h) in
-          with_other indices item.start n v.start (not_there v.start item.start j old none) ∙ old)
-          (same_or_not j n)
-
       added_there : (s j : ℕ) → map.get more s ≡ Some j → (v : ValueAt X) × (slice_get new j ≡ Some v) × (v.start ≡ s)
       added_there s j h =
           ⊎_elim
-          (λ (e : s ≡ item.start).
-          let same : n ≡ j = cc (sym (with_here indices item.start n) ∙ ap (λ (q : ℕ). map.get more q) (sym e) ∙ h) in
-          (item, ap (λ (k : ℕ). slice_get new k) (sym same) ∙ here, sym e))
+          (λ (e : s ≡ item.start). (item, grind (arith, h, e, here, get_with indices item.start n s), sym e))
           (λ (d : s ≢ item.start).
-          let old = sym (with_other indices item.start n s d) ∙ h in
-          let t = i.there s j old in
-          (t.0, others j (not_past s j old) ∙ t.1, t.2))
+          let old : map.get indices s ≡ Some j = grind (arith, h, d, get_with indices item.start n s) in
+          let t = i.there s j old in (t.0, others j (not_past s j old) ∙ t.1, t.2))
           (same_or_not s item.start)
 
       pub added : AreIndexed more new
-      added = record { found = added_found; there = added_there }
+      added = record {
+        found = λ j v h. grind (arith, h, here, none, others j, i.found j v, get_with indices item.start n v.start);
+        there = added_there;
+      }
 
-      added_value : (q : ℕ) (o : Option ℕ) → map.get indices q ≡ o → q ≢ item.start → value_in new o ≡ value_in vs o
-      added_value q None g d = refl
-      added_value q (Some j) g d = ap (λ (u : Option (ValueAt X)). option_map value_of u) (others j (not_past q j g))
+      added_value : (q : ℕ) (o : Option ℕ) → map.get indices q ≡ o →
+          value_in new (map.get more q) ≡ map.get (map.insert (values_of vs) item.start item.value) q
+      added_value q None g =
+          grind (arith, g, here, get_with indices item.start n q, get_with (values_of vs) item.start item.value q, got_value indices vs i q)
+      added_value q (Some j) g =
+          let same = others j (not_past q j g) in
+          grind (arith, g, here, same, get_with indices item.start n q, get_with (values_of vs) item.start item.value q, got_value indices vs i q)
 
       pub values_added : values_of new ≡ map.insert (values_of vs) item.start item.value
-      values_added = same_values more new added (map.insert (values_of vs) item.start item.value) (λ q.
-          ⊎_elim
-          (λ (e : q ≡ item.start).
-          ap (λ (s : ℕ). value_in new (map.get more s)) e ∙ ap (λ (o : Option ℕ). value_in new o) (with_here indices item.start n)
-          ∙ ap (λ (u : Option (ValueAt X)). option_map value_of u) here
-          ∙ sym (ap (λ (s : ℕ). map.get (map.insert (values_of vs) item.start item.value) s) e ∙ with_here (values_of vs) item.start item.value))
-          (λ (d : q ≢ item.start).
-          ap (λ (o : Option ℕ). value_in new o) (with_other indices item.start n q d) ∙ added_value q (map.get indices q) refl d
-          ∙ sym (with_other (values_of vs) item.start item.value q d ∙ got_value indices vs i q))
-          (same_or_not q item.start))
+      values_added = same_values more new added _ (λ q. added_value q (map.get indices q) refl)
 
     -- ---- The items other than one keep their indices
     module _ (k : ℕ) (old : ValueAt X) (at : slice_get vs k ≡ Some old) (others : (j : ℕ) → j ≢ k → slice_get new j ≡ slice_get vs j) where
@@ -183,224 +152,56 @@ module _ {X : Type 0} where
       other_there s j g d = let t = i.there s j g in (t.0, others j (other_item s j g d) ∙ t.1, t.2)
 
       -- ---- The item is replaced by one at the same start, or at one without a value
-      module _ (item : ValueAt X) (here : slice_get new k ≡ Some item) where
-        -- At the same start, the indices stay.
-        module _ (same : item.start ≡ old.start) where
-          written_found : (j : ℕ) (v : ValueAt X) → slice_get new j ≡ Some v → map.get indices v.start ≡ Some j
-          written_found j v h =
-              ⊎_elim
-              (λ (e : j ≡ k).
-              let is : item ≡ v = cc (sym here ∙ ap (λ (m : ℕ). slice_get new m) (sym e) ∙ h) in
-              ap (λ (u : ValueAt X). map.get indices u.start) (sym is) ∙ ap (λ (s : ℕ). map.get indices s) same ∙ index ∙ ap (λ (m : ℕ). Some m) (sym e))
-              (λ (d : j ≢ k). i.found j v (sym (others j d) ∙ h))
-              (same_or_not j k)
+      module _ (item : ValueAt X) (here : slice_get new k ≡ Some item) (free : item.start ≢ old.start → map.get indices item.start ≡ None) where
+        abbrev moved_indices : map.FinMap nat_cmp ℕ
+        moved_indices = map.insert (map.remove indices old.start) item.start k
 
-          written_there : (s j : ℕ) → map.get indices s ≡ Some j → (v : ValueAt X) × (slice_get new j ≡ Some v) × (v.start ≡ s)
-          written_there s j h =
-              ⊎_elim
-              (λ (e : s ≡ old.start).
-              let is : k ≡ j = cc (sym index ∙ ap (λ (q : ℕ). map.get indices q) (sym e) ∙ h) in
-              (item, ap (λ (m : ℕ). slice_get new m) (sym is) ∙ here, same ∙ sym e))
-              (λ (d : s ≢ old.start). other_there s j h d)
-              (same_or_not s old.start)
+        moved_at : (s : ℕ) → map.get moved_indices s ≡ cond (s == item.start) (Some k) (cond (s == old.start) None (map.get indices s))
+        moved_at s =
+            get_with (map.remove indices old.start) item.start k s
+            ∙ ap (λ (o : Option ℕ). cond (s == item.start) (Some k) o) (get_without indices old.start s)
 
-          pub written : AreIndexed indices new
-          written = record { found = written_found; there = written_there }
+        moved_there : (s j : ℕ) → map.get moved_indices s ≡ Some j → (v : ValueAt X) × (slice_get new j ≡ Some v) × (v.start ≡ s)
+        moved_there s j h =
+            ⊎_elim
+            (λ (e : s ≡ item.start). (item, grind (arith, h, e, here, moved_at s), sym e))
+            (λ (d : s ≢ item.start). other_there s j (grind (arith, h, d, moved_at s)) (grind (arith, h, d, moved_at s)))
+            (same_or_not s item.start)
 
-          pub values_written : values_of new ≡ map.insert (values_of vs) old.start item.value
-          values_written = same_values indices new written (map.insert (values_of vs) old.start item.value) (λ q.
-              ⊎_elim
-              (λ (e : q ≡ old.start).
-              ap (λ (s : ℕ). value_in new (map.get indices s)) e ∙ ap (λ (o : Option ℕ). value_in new o) index
-              ∙ ap (λ (u : Option (ValueAt X)). option_map value_of u) here
-              ∙ sym (ap (λ (s : ℕ). map.get (map.insert (values_of vs) old.start item.value) s) e ∙ with_here (values_of vs) old.start item.value))
-              (λ (d : q ≢ old.start).
-              other_value q (map.get indices q) refl d
-              ∙ sym (with_other (values_of vs) old.start item.value q d ∙ got_value indices vs i q))
-              (same_or_not q old.start))
+        pub moved : AreIndexed moved_indices new
+        moved = record {
+          found = λ j v h. grind (arith, h, here, free, index, others j, i.found j v, moved_at v.start);
+          there = moved_there;
+        }
 
-        -- At another start, the index moves there.
-        module _ (none : map.get indices item.start ≡ None) where
-          abbrev moved_indices : map.FinMap nat_cmp ℕ
-          moved_indices = map.remove (map.insert indices item.start k) old.start
+        abbrev moved_values : map.FinMap nat_cmp X
+        moved_values = map.insert (map.remove (values_of vs) old.start) item.start item.value
 
-          apart : item.start ≢ old.start
-          apart e = not_there old.start item.start k index none (sym e)
+        moved_value : (q : ℕ) (o : Option ℕ) → map.get indices q ≡ o → value_in new (map.get moved_indices q) ≡ map.get moved_values q
+        moved_value q o g =
+            let others = other_value q o g in
+            let put = get_with (map.remove (values_of vs) old.start) item.start item.value q in
+            grind (arith, g, here, index, others, moved_at q, put, get_without (values_of vs) old.start q, got_value indices vs i q)
 
-          moved_here : map.get moved_indices item.start ≡ Some k
-          moved_here = without_other (map.insert indices item.start k) old.start item.start apart ∙ with_here indices item.start k
-
-          moved_other : (s : ℕ) → s ≢ old.start → s ≢ item.start → map.get moved_indices s ≡ map.get indices s
-          moved_other s a b = without_other (map.insert indices item.start k) old.start s a ∙ with_other indices item.start k s b
-
-          moved_found : (j : ℕ) (v : ValueAt X) → slice_get new j ≡ Some v → map.get moved_indices v.start ≡ Some j
-          moved_found j v h =
-              ⊎_elim
-              (λ (e : j ≡ k).
-              let is : item ≡ v = cc (sym here ∙ ap (λ (m : ℕ). slice_get new m) (sym e) ∙ h) in
-              ap (λ (u : ValueAt X). map.get moved_indices u.start) (sym is) ∙ moved_here ∙ ap (λ (m : ℕ). Some m) (sym e))
-              (λ (d : j ≢ k).
-              let was = i.found j v (sym (others j d) ∙ h) in
-              moved_other v.start (other_index v.start old.start j k was index d) (not_there v.start item.start j was none) ∙ was)
-              (same_or_not j k)
-
-          moved_there : (s j : ℕ) → map.get moved_indices s ≡ Some j → (v : ValueAt X) × (slice_get new j ≡ Some v) × (v.start ≡ s)
-          moved_there s j h =
-              ⊎_elim
-              (λ (e : s ≡ item.start).
-              let is : k ≡ j = cc (sym moved_here ∙ ap (λ (q : ℕ). map.get moved_indices q) (sym e) ∙ h) in
-              (item, ap (λ (m : ℕ). slice_get new m) (sym is) ∙ here, sym e))
-              (λ (d : s ≢ item.start).
-              let old_start : s ≢ old.start = λ e.
-              cc (sym (without_here (map.insert indices item.start k) old.start) ∙ ap (λ (q : ℕ). map.get moved_indices q) (sym e) ∙ h) in
-              other_there s j (sym (moved_other s old_start d) ∙ h) old_start)
-              (same_or_not s item.start)
-
-          pub moved : AreIndexed moved_indices new
-          moved = record { found = moved_found; there = moved_there }
-
-          abbrev moved_values : map.FinMap nat_cmp X
-          moved_values = map.insert (map.remove (values_of vs) old.start) item.start item.value
-
-          pub values_moved : values_of new ≡ moved_values
-          values_moved = same_values moved_indices new moved moved_values (λ q.
-              ⊎_elim
-              (λ (e : q ≡ item.start).
-              ap (λ (s : ℕ). value_in new (map.get moved_indices s)) e ∙ ap (λ (o : Option ℕ). value_in new o) moved_here
-              ∙ ap (λ (u : Option (ValueAt X)). option_map value_of u) here
-              ∙ sym (ap (λ (s : ℕ). map.get moved_values s) e ∙ with_here (map.remove (values_of vs) old.start) item.start item.value))
-              (λ (d : q ≢ item.start).
-              ⊎_elim
-              (λ (e : q ≡ old.start).
-              ap (λ (s : ℕ). value_in new (map.get moved_indices s)) e
-              ∙ ap (λ (o : Option ℕ). value_in new o) (without_here (map.insert indices item.start k) old.start)
-              ∙ sym (ap (λ (s : ℕ). map.get moved_values s) e
-              ∙ with_other (map.remove (values_of vs) old.start) item.start item.value old.start (λ f. apart (sym f))
-              ∙ without_here (values_of vs) old.start))
-              (λ (f : q ≢ old.start).
-              ap (λ (o : Option ℕ). value_in new o) (moved_other q f d) ∙ other_value q (map.get indices q) refl f
-              ∙ sym (with_other (map.remove (values_of vs) old.start) item.start item.value q d ∙ without_other (values_of vs) old.start q f
-              ∙ got_value indices vs i q))
-              (same_or_not q old.start))
-              (same_or_not q item.start))
+        pub values_moved : values_of new ≡ moved_values
+        values_moved = same_values moved_indices new moved moved_values (λ q. moved_value q (map.get indices q) refl)
 
       -- ---- The item is the last one, and is taken out
       module _ (past : slice_get new k ≡ None) where
-        abbrev fewer : map.FinMap nat_cmp ℕ
-        fewer = map.remove indices old.start
+        pub cut : AreIndexed (map.remove indices old.start) new
+        cut = record {
+          found = λ j v h. grind (arith, h, past, index, others j, i.found j v, get_without indices old.start v.start);
+          there = λ s j h. other_there s j (grind (arith, h, get_without indices old.start s)) (grind (arith, h, get_without indices old.start s));
+        }
 
-        cut_found : (j : ℕ) (v : ValueAt X) → slice_get new j ≡ Some v → map.get fewer v.start ≡ Some j
-        cut_found j v h =
-            let d : j ≢ k = λ e. cc (sym past ∙ ap (λ (m : ℕ). slice_get new m) (sym e) ∙ h) in
-            let was = i.found j v (sym (others j d) ∙ h) in
-            without_other indices old.start v.start (other_index v.start old.start j k was index d) ∙ was
-
-        cut_there : (s j : ℕ) → map.get fewer s ≡ Some j → (v : ValueAt X) × (slice_get new j ≡ Some v) × (v.start ≡ s)
-        cut_there s j h =
-            let n : s ≢ old.start = λ e. cc (sym (without_here indices old.start) ∙ ap (λ (q : ℕ). map.get fewer q) (sym e) ∙ h) in
-            other_there s j (sym (without_other indices old.start s n) ∙ h) n
-
-        pub cut : AreIndexed fewer new
-        cut = record { found = cut_found; there = cut_there }
+        cut_value : (q : ℕ) (o : Option ℕ) → map.get indices q ≡ o →
+            value_in new (map.get (map.remove indices old.start) q) ≡ map.get (map.remove (values_of vs) old.start) q
+        cut_value q o g =
+            let others = other_value q o g in
+            grind (arith, g, others, get_without indices old.start q, get_without (values_of vs) old.start q, got_value indices vs i q)
 
         pub values_cut : values_of new ≡ map.remove (values_of vs) old.start
-        values_cut = same_values fewer new cut (map.remove (values_of vs) old.start) (λ q.
-            ⊎_elim
-            (λ (e : q ≡ old.start).
-            ap (λ (s : ℕ). value_in new (map.get fewer s)) e ∙ ap (λ (o : Option ℕ). value_in new o) (without_here indices old.start)
-            ∙ sym (ap (λ (s : ℕ). map.get (map.remove (values_of vs) old.start) s) e ∙ without_here (values_of vs) old.start))
-            (λ (d : q ≢ old.start).
-            ap (λ (o : Option ℕ). value_in new o) (without_other indices old.start q d) ∙ other_value q (map.get indices q) refl d
-            ∙ sym (without_other (values_of vs) old.start q d ∙ got_value indices vs i q))
-            (same_or_not q old.start))
-
-    -- ---- The last item takes the place of one that is taken out
-    module _ (k n : ℕ) (old last : ValueAt X) (apart : k ≢ n) (at : slice_get vs k ≡ Some old) (end : slice_get vs n ≡ Some last)
-        (here : slice_get new k ≡ Some last) (past : slice_get new n ≡ None)
-        (others : (j : ℕ) → j ≢ k → j ≢ n → slice_get new j ≡ slice_get vs j) where
-      out_index : map.get indices old.start ≡ Some k
-      out_index = i.found k old at
-
-      end_index : map.get indices last.start ≡ Some n
-      end_index = i.found n last end
-
-      starts_apart : last.start ≢ old.start
-      starts_apart = other_index last.start old.start n k end_index out_index (λ e. apart (sym e))
-
-      abbrev swapped_indices : map.FinMap nat_cmp ℕ
-      swapped_indices = map.insert (map.remove indices old.start) last.start k
-
-      swapped_here : map.get swapped_indices last.start ≡ Some k
-      swapped_here = with_here (map.remove indices old.start) last.start k
-
-      swapped_other : (s : ℕ) → s ≢ old.start → s ≢ last.start → map.get swapped_indices s ≡ map.get indices s
-      swapped_other s a b = with_other (map.remove indices old.start) last.start k s b ∙ without_other indices old.start s a
-
-      swapped_out : map.get swapped_indices old.start ≡ None
-      swapped_out =
-          with_other (map.remove indices old.start) last.start k old.start (λ e. starts_apart (sym e)) ∙ without_here indices old.start
-
-      swapped_found : (j : ℕ) (v : ValueAt X) → slice_get new j ≡ Some v → map.get swapped_indices v.start ≡ Some j
-      swapped_found j v h =
-          let e_n : j ≢ n = λ e. cc (sym past ∙ ap (λ (m : ℕ). slice_get new m) (sym e) ∙ h) in
-          ⊎_elim
-          (λ (e : j ≡ k).
-          let is : last ≡ v = cc (sym here ∙ ap (λ (m : ℕ). slice_get new m) (sym e) ∙ h) in
-          ap (λ (u : ValueAt X). map.get swapped_indices u.start) (sym is) ∙ swapped_here ∙ ap (λ (m : ℕ). Some m) (sym e))
-          (λ (d : j ≢ k).
-          let was = i.found j v (sym (others j d e_n) ∙ h) in
-          swapped_other v.start (other_index v.start old.start j k was out_index d) (other_index v.start last.start j n was end_index e_n) ∙ was)
-          (same_or_not j k)
-
-      not_swapped : (s j : ℕ) → map.get swapped_indices s ≡ Some j → s ≢ old.start
-      not_swapped s j h e = cc (sym swapped_out ∙ ap (λ (q : ℕ). map.get swapped_indices q) (sym e) ∙ h)
-
-      -- An item with another start than these two is at another index.
-      item_apart : (s j m : ℕ) (u : ValueAt X) → map.get indices s ≡ Some j → slice_get vs m ≡ Some u → s ≢ u.start → j ≢ m
-      item_apart s j m u g h d e =
-          let t = i.there s j g in
-          let is : u ≡ t.0 = cc (sym h ∙ ap (λ (p : ℕ). slice_get vs p) (sym e) ∙ t.1) in
-          d (sym t.2 ∙ ap (λ (w : ValueAt X). w.start) (sym is))
-
-      swapped_there : (s j : ℕ) → map.get swapped_indices s ≡ Some j → (v : ValueAt X) × (slice_get new j ≡ Some v) × (v.start ≡ s)
-      swapped_there s j h =
-          ⊎_elim
-          (λ (e : s ≡ last.start).
-          let is : k ≡ j = cc (sym swapped_here ∙ ap (λ (q : ℕ). map.get swapped_indices q) (sym e) ∙ h) in
-          (last, ap (λ (m : ℕ). slice_get new m) (sym is) ∙ here, sym e))
-          (λ (d : s ≢ last.start).
-          let o = not_swapped s j h in
-          let was = sym (swapped_other s o d) ∙ h in
-          let t = i.there s j was in
-          (t.0, others j (item_apart s j k old was at o) (item_apart s j n last was end d) ∙ t.1, t.2))
-          (same_or_not s last.start)
-
-      pub swapped : AreIndexed swapped_indices new
-      swapped = record { found = swapped_found; there = swapped_there }
-
-      swapped_value : (q : ℕ) (o : Option ℕ) → map.get indices q ≡ o → q ≢ old.start → q ≢ last.start → value_in new o ≡ value_in vs o
-      swapped_value q None g a b = refl
-      swapped_value q (Some j) g a b =
-          ap (λ (u : Option (ValueAt X)). option_map value_of u) (others j (item_apart q j k old g at a) (item_apart q j n last g end b))
-
-      pub values_swapped : values_of new ≡ map.remove (values_of vs) old.start
-      values_swapped = same_values swapped_indices new swapped (map.remove (values_of vs) old.start) (λ q.
-          ⊎_elim
-          (λ (e : q ≡ old.start).
-          ap (λ (s : ℕ). value_in new (map.get swapped_indices s)) e ∙ ap (λ (o : Option ℕ). value_in new o) swapped_out
-          ∙ sym (ap (λ (s : ℕ). map.get (map.remove (values_of vs) old.start) s) e ∙ without_here (values_of vs) old.start))
-          (λ (d : q ≢ old.start).
-          ⊎_elim
-          (λ (e : q ≡ last.start).
-          ap (λ (s : ℕ). value_in new (map.get swapped_indices s)) e ∙ ap (λ (o : Option ℕ). value_in new o) swapped_here
-          ∙ ap (λ (u : Option (ValueAt X)). option_map value_of u) here
-          ∙ sym (ap (λ (s : ℕ). map.get (map.remove (values_of vs) old.start) s) e
-          ∙ without_other (values_of vs) old.start last.start starts_apart ∙ value_here indices vs i last.start n last end_index end))
-          (λ (f : q ≢ last.start).
-          ap (λ (o : Option ℕ). value_in new o) (swapped_other q d f) ∙ swapped_value q (map.get indices q) refl d f
-          ∙ sym (without_other (values_of vs) old.start q d ∙ got_value indices vs i q))
-          (same_or_not q last.start))
-          (same_or_not q old.start))
+        values_cut = same_values (map.remove indices old.start) new cut _ (λ q. cut_value q (map.get indices q) refl)
 
 -- A list without items has no index.
 pub nothing_indexed : {X : Type 0} → AreIndexed {X = X} map.empty []

@@ -15,22 +15,7 @@ use Rattle.vm_addresses.proofs.Callers.{given, request_fits, request_inside}
 use Rattle.vm_addresses.proofs.Histories.MoveSteps.{moved_parts}
 use Rattle.vm_addresses.proofs.Results.AddressResults.{freeing_undoes}
 use Rattle.vm_addresses.proofs.Results.Requests.{allocates_refused}
-use Rattle.vm_range_map.specs.RangeMaps.{
-  MapState,
-  map_of,
-  IsMapState,
-  HasValue,
-  with_range,
-  without_range,
-  with_value,
-  with_moved,
-  MakesMap,
-  AllocatesWith,
-  FreesWith,
-  IsValueAt,
-  SetsValue,
-  MovesWith,
-}
+use Rattle.vm_range_map.specs.RangeMaps.{MapState, map_of, IsMapState, HasValue, with_range, without_range, with_value, with_moved, MakesMap, AllocatesWith, FreesWith, IsValueAt, SetsValue, MovesWith}
 use Rattle.vm_range_map.specs.Trees.{RangeMapInTree, map_state}
 use Rattle.vm_range_map.specs.MapLends.{WritesAt}
 use Rattle.vm_range_map.proofs.MapStates.{empty_state, value_state}

@@ -1,30 +1,36 @@
 -- A call of a map has one result, if memory suffices.
-use Rattle.std.proofs.Common.{◌≡◌, ◌≢◌, ℕ, arith, refl, sym, ap, ◌∙◌, inl, inr, ◌⊎◌, ⊎_elim, subst, Option, Some, None, Result, Ok, Err}
+use Rattle.std.proofs.Common.{◌≡◌, ◌≢◌, ℕ, arith, refl, sym, ap, ◌∙◌, inl, inr, ◌⊎◌, ⊎_elim, subst, List, Option, Some, None, Result, Ok, Err}
 use Rattle.std.specs.FinMap as map
-use Rattle.vm_ranges.specs.Range.{Range}
+use Rattle.vm_ranges.specs.Range.{Range, span}
 use Rattle.vm_ranges.specs.Request.{Request}
 use Rattle.vm_ranges.specs.declared.error.Error.{Error}
 use Rattle.vm_ranges.specs.declared.error.Error.TheVariants.{OutOfMemory}
+use Rattle.vm_ranges.specs.Address.{AddressState}
+use Rattle.vm_ranges.proofs.TwoFacts.{if_same}
+use Rattle.vm_addresses.specs.Held.{BySpace, MakesHeld, MakesWithHeld, first_fault}
+use Rattle.vm_addresses.proofs.Results.SeveralOnce.{each_once}
+use Rattle.vm_range_map.proofs.SeveralValues.{MakesBy}
 use Rattle.vm_addresses.proofs.Histories.MoveSteps.{moves_once}
 use Rattle.vm_addresses.proofs.Results.InMemory.{placed_once, made_once}
-use Rattle.vm_range_map.specs.RangeMaps.{
-  MapState,
-  IsMapState,
-  with_value,
-  with_moved,
-  with_table,
-  MakesMap,
-  GivesValue,
-  AllocatesWith,
-  FreesWith,
-  IsValueAt,
-  SetsValue,
-  MovesValue,
-  MovesWith,
-}
+use Rattle.vm_range_map.specs.RangeMaps.{MapState, IsMapState, with_value, with_moved, with_table, with_values, MakesMapWithHeld, AllocatesEachWith, MakesMap, GivesValue, AllocatesWith, FreesWith, IsValueAt, SetsValue, MovesValue, MovesWith}
 use Rattle.vm_range_map.specs.Laws.{MapsDecide}
 use Rattle.vm_range_map.proofs.HeldRanges.{missed, one_at}
 use Rattle.vm_range_map.proofs.KeptValues.{one_value, at_its_addresses}
+
+-- Creating a space with held ranges has one result.
+made_by_once : (o : Option Error) (many : Type 0) (state : AddressState) (answer other : Result AddressState Error) → answer ≢ Err OutOfMemory →
+    other ≢ Err OutOfMemory → MakesBy o many state answer → MakesBy o many state other → answer ≡ other
+made_by_once (Some f) many state answer other p q a b = a ∙ sym b
+made_by_once None many state answer other p q a b =
+    if_same _ _ _ _ _ a b (λ u v. u ∙ sym v)
+    (λ u v. ⊎_elim (λ e. ⊎_elim (λ f. e ∙ sym f) (λ f. absurd (q f)) v) (λ e. absurd (p e)) u)
+
+held_once : (base size : ℕ) (held : List Range) (answer other : Result AddressState Error) → answer ≢ Err OutOfMemory → other ≢ Err OutOfMemory →
+    MakesWithHeld base size held answer → MakesWithHeld base size held other → answer ≡ other
+unfolding BySpace MakesHeld
+held_once base size held answer other p q a b =
+    if_same _ _ _ _ _ a b (λ u v. u ∙ sym v)
+    (λ a b. if_same _ _ _ _ _ a b (λ u v. u ∙ sym v) (made_by_once (first_fault base (span base size).end held) _ _ answer other p q))
 
 module _ {X : Type 0} where
   -- Creating a map has one result.
@@ -33,6 +39,21 @@ module _ {X : Type 0} where
   unfolding MakesMap
   made_map_once base size answer other p q a b =
       a.2 ∙ ap (with_table map.empty) (made_once base size a.0 b.0 (λ e. p (a.2 ∙ ap (with_table map.empty) e)) (λ e. q (b.2 ∙ ap (with_table map.empty) e)) a.1 b.1) ∙ sym b.2
+
+  made_with_once : (base size : ℕ) (held : List Range) (values : List X) (answer other : Result (MapState X) Error) → answer ≢ Err OutOfMemory →
+      other ≢ Err OutOfMemory → MakesMapWithHeld base size held values answer → MakesMapWithHeld base size held values other → answer ≡ other
+  unfolding MakesMapWithHeld
+  made_with_once base size held values answer other p q a b =
+      let made = with_table (with_values map.empty held values) in
+      a.2 ∙ ap made (held_once base size held a.0 b.0 (λ e. p (a.2 ∙ ap made e)) (λ e. q (b.2 ∙ ap made e)) a.1 b.1) ∙ sym b.2
+
+  -- A list of requests has one list of ranges and one next state.
+  allocated_each_once : (old new later : MapState X) (requests : List Request) (values : List X) (ranges others : List Range) →
+      AllocatesEachWith old requests values ranges new → AllocatesEachWith old requests values others later → (ranges ≡ others) × (new ≡ later)
+  allocated_each_once old new later requests values ranges others a b =
+      let same = each_once requests ranges others old.space new.space later.space a.0 b.0 in
+      let table = a.1 ∙ ap (λ (rs : List Range). with_values old.values rs values) same.0 ∙ sym b.1 in
+      (same.0, λ k. record { space = same.1 k; values = table k })
 
   -- ---- Allocating
   module _ (old new later : MapState X) (value : X) (answer other : Result Range Error) (p : answer ≢ Err OutOfMemory)
@@ -121,7 +142,9 @@ module _ {X : Type 0} where
   pub maps_decide : MapsDecide X
   maps_decide = record {
     made = made_map_once;
+    made_with = made_with_once;
     allocated = allocated_once;
+    allocated_each = allocated_each_once;
     freed = freed_once;
     moved = moved_once;
     got = got_once;

@@ -15,7 +15,7 @@ use Rattle.vm_range_map.specs.RangeMaps.{MapState, map_of, IsMapState}
 use Rattle.vm_range_map.specs.Queries.{valued_in, valued_ranges}
 use Rattle.vm_range_map.specs.Checks.{entry_of, value_of, values_of, pair_up, AreIndexed, AreListed, AreMatched}
 use Rattle.vm_range_map.proofs.MapStates.{some_value}
-use Rattle.vm_range_map.proofs.Indices.{value_here, some_index, some_of_index}
+use Rattle.vm_range_map.proofs.Indices.{value_here, same_starts}
 use Rattle.vm_range_map.proofs.ValuedLists.{pair_in, entries_held}
 
 -- An item within the list is there.
@@ -85,22 +85,6 @@ module _ {X : Type 0} (vs : List (ValueAt X)) where
     pair_pushed (q ∷ rs) (f ∷ es) m = after q (slice_get vs f.index) _ _ _ (pair_pushed rs es m.1)
 
   module _ (all rs : List Range) (every es : List IndexAt) (r : Range) (e : IndexAt) (m : AreMatched vs all every) where
-    -- The first pair is that of the first range and the first entry.
-    module _ (s : all ≡ r ∷ rs) (t : every ≡ e ∷ es) where
-      matched_first : AreMatched vs (r ∷ rs) (e ∷ es)
-      matched_first = subst (λ (xs : List IndexAt). AreMatched vs (r ∷ rs) xs) t (subst (λ (xs : List Range). AreMatched vs xs every) s m)
-
-      pub first_within : e.index < length vs
-      first_within = matched_first.0
-
-      pub first_left : AreMatched vs rs es
-      first_left = matched_first.1
-
-      pub pair_first : (value : X) → Some value ≡ option_map value_of (slice_get vs e.index) → pair_up vs all every ≡ (r, value) ∷ pair_up vs rs es
-      pair_first value h =
-          ap (λ (xs : List Range). pair_up vs xs every) s ∙ ap (λ (xs : List IndexAt). pair_up vs (r ∷ rs) xs) t
-          ∙ pair_of_value r (slice_get vs e.index) value (pair_up vs rs es) h
-
     -- The last pair is that of the last range and the last entry.
     module _ (s : all ≡ rs ++ r ∷ []) (t : every ≡ es ++ e ∷ []) where
       matched_last : AreMatched vs (rs ++ r ∷ []) (es ++ e ∷ [])
@@ -148,8 +132,8 @@ module _ {X : Type 0} (vs : List (ValueAt X)) where
     index_state space s = record {
       space = s.space;
       starts = λ q. (
-        λ h. (s.starts q).0 (some_of_index indices vs i q h),
-        λ h. some_index indices vs i q ((s.starts q).1 h),
+        λ h. (s.starts q).0 ((same_starts indices vs i q).1 h),
+        λ h. (same_starts indices vs i q).0 ((s.starts q).1 h),
       );
     }
 

@@ -9,24 +9,8 @@ use Rattle.vm_list.proofs.EntryLaws.{entries_are_by_key}
 use Rattle.vm_range_map.specs.declared.range_map.value_table.ValueAt.{ValueAt}
 use Rattle.vm_range_map.specs.declared.range_map.value_table.IndexAt.{IndexAt}
 use Rattle.vm_range_map.specs.Checks.{start_of, indices_of, values_of, renumbered, IsKnownAt, AreIndexed}
-use Rattle.vm_range_map.proofs.Tables.{got, get_without, put_table, taken_table, same_table, same_or_not}
-use Rattle.vm_range_map.proofs.Indices.{
-  value_here,
-  no_value,
-  no_index,
-  some_index,
-  other_index,
-  added,
-  values_added,
-  written,
-  values_written,
-  moved,
-  values_moved,
-  cut,
-  values_cut,
-  swapped,
-  values_swapped,
-}
+use Rattle.vm_range_map.proofs.Tables.{got, get_without, without_here, put_table, taken_table, same_table, same_or_not, moved_nowhere, moved_later, replaced_value, put_again, kept_value}
+use Rattle.vm_range_map.proofs.Indices.{value_here, no_value, no_index, same_starts, other_index, added, values_added, moved, values_moved, cut, values_cut}
 
 module _ {Y : Type 0} where
   -- ---- An item that is added at the end
@@ -66,11 +50,16 @@ module _ {Y : Type 0} where
   take_past (suc n) (x ∷ xs) zero l = absurd (omega (arith, l))
   take_past (suc n) (x ∷ xs) (suc j) l = take_past n xs j (omega (arith, l))
 
+  take_set : (n : ℕ) (xs : List Y) (k : ℕ) (y : Y) (j : ℕ) → j ≢ k → slice_get (take n (slice_set xs k y)) j ≡ slice_get (take n xs) j
+  take_set zero xs k y j m = refl
+  take_set (suc n) [] k y j m = refl
+  take_set (suc n) (x ∷ xs) zero y zero m = absurd (m refl)
+  take_set (suc n) (x ∷ xs) zero y (suc j) m = refl
+  take_set (suc n) (x ∷ xs) (suc k) y zero m = refl
+  take_set (suc n) (x ∷ xs) (suc k) y (suc j) m = take_set n xs k y j (λ e. m (ap suc e))
+
   -- ---- An item that is taken out, whose place the last one takes
   module _ (xs : List Y) (k : ℕ) (d : Y) (w : k < length xs) where
-    last_index : ℕ
-    last_index = length xs - 1
-
     abbrev last_item : Y
     last_item = get_or xs (length xs - 1) d
 
@@ -84,14 +73,19 @@ module _ {Y : Type 0} where
     pub out_past : slice_get (swap_remove xs k d) (length xs - 1) ≡ None
     out_past = take_past (length xs - 1) (slice_set xs k last_item) (length xs - 1) (omega arith)
 
-    past_or_before : (j : ℕ) → (j < length xs - 1) ⊎ (length xs ≤ j) → j ≢ k → slice_get (swap_remove xs k d) j ≡ slice_get xs j
-    past_or_before j (inl l) n =
-        take_here (length xs - 1) (slice_set xs k last_item) j l ∙ set_other xs k last_item j n
-    past_or_before j (inr l) n =
-        take_past (length xs - 1) (slice_set xs k last_item) j (omega (arith, l)) ∙ sym (slice_get_past xs j l)
+    by_side : (j : ℕ) → (j < length xs - 1) ⊎ (length xs ≤ j) → slice_get (take (length xs - 1) xs) j ≡ slice_get xs j
+    by_side j (inl l) = take_here (length xs - 1) xs j l
+    by_side j (inr l) = take_past (length xs - 1) xs j (omega (arith, l)) ∙ sym (slice_get_past xs j l)
+
+    -- Without the last one, the others stay.
+    pub first_kept : (j : ℕ) → j ≢ length xs - 1 → slice_get (take (length xs - 1) xs) j ≡ slice_get xs j
+    first_kept j m = by_side j (grind (arith, m))
+
+    pub out_kept : (j : ℕ) → j ≢ k → slice_get (swap_remove xs k d) j ≡ slice_get (take (length xs - 1) xs) j
+    out_kept j n = take_set (length xs - 1) xs k last_item j n
 
     pub out_other : (j : ℕ) → j ≢ k → j ≢ length xs - 1 → slice_get (swap_remove xs k d) j ≡ slice_get xs j
-    out_other j n m = past_or_before j (grind (arith, m)) n
+    out_other j n m = out_kept j n ∙ first_kept j m
 
 -- ---- The index of an entry
 module _ {X : Type 0} (es : List IndexAt) (vs : List (ValueAt X)) (i : AreIndexed (indices_of es) vs) (s : ℕ) where
@@ -134,7 +128,7 @@ module _ {X : Type 0} (es : List IndexAt) (vs : List (ValueAt X)) (i : AreIndexe
 
   -- A start with a value has an entry.
   pub entry_there : IsSome (map.get (values_of vs) s) → entry_at start_of s es ≡ None → ⊥
-  entry_there some h = let index = some_index (indices_of es) vs i s some in cc (index, entry_none h)
+  entry_there some h = let index = (same_starts (indices_of es) vs i s).0 some in cc (index, entry_none h)
 
 -- ---- The table after an item is added, replaced, moved or taken out
 -- The result of a call that succeeded, or failed.
@@ -189,38 +183,46 @@ module _ {X : Type 0} (es : List IndexAt) (vs : List (ValueAt X)) (i : AreIndexe
 
       pub item_written : AreIndexed (indices_of es) (slice_set vs e.index written_item)
       item_written =
-          written (indices_of es) vs (slice_set vs e.index written_item) i e.index old (item_read es vs i s e old found read).0
-          (λ j n. set_other vs e.index written_item j n) written_item (set_here vs e.index written_item within) refl
+          let at = item_read es vs i s e old found read in
+          subst (λ (m : map.FinMap nat_cmp ℕ). AreIndexed m (slice_set vs e.index written_item))
+          (sym (moved_nowhere (indices_of es) old.start old.start e.index refl (i.found e.index old at.0)))
+          (moved (indices_of es) vs (slice_set vs e.index written_item) i e.index old at.0 (λ j n. set_other vs e.index written_item j n)
+          written_item (set_here vs e.index written_item within) (λ n. absurd (n refl)))
 
       pub values_with : values_of (slice_set vs e.index written_item) ≡ map.insert (values_of vs) s value
       values_with =
-          values_written (indices_of es) vs (slice_set vs e.index written_item) i e.index old (item_read es vs i s e old found read).0
-          (λ j n. set_other vs e.index written_item j n) written_item (set_here vs e.index written_item within) refl
-          ∙ ap (λ (q : ℕ). map.insert (values_of vs) q value) (item_read es vs i s e old found read).1
+          let at = item_read es vs i s e old found read in
+          values_moved (indices_of es) vs (slice_set vs e.index written_item) i e.index old at.0
+          (λ j n. set_other vs e.index written_item j n) written_item (set_here vs e.index written_item within) (λ n. absurd (n refl))
+          ∙ replaced_value (values_of vs) old.start value ∙ ap (λ (q : ℕ). map.insert (values_of vs) q value) at.1
 
     -- An item is moved to another start.
     module _ (old : ValueAt X) (to : ℕ) (read : old ≡ get_or vs e.index old) (none : map.get (values_of vs) to ≡ None) where
       abbrev moved_item : ValueAt X
       moved_item = record { start = to; value = old.value }
 
-      moved_entries : indices_of (without start_of s (with_entry start_of (record { start = to; index = e.index }) es)) ≡ map.remove (map.insert (indices_of es) to e.index) s
-      moved_entries =
-          taken_table start_of index_of s (with_entry start_of (record { start = to; index = e.index }) es)
-          ∙ ap (λ (m : map.FinMap nat_cmp ℕ). map.remove m s) (put_table start_of index_of (record { start = to; index = e.index }) es)
+      moved_entries : (q : ℕ) → q ≡ s → to ≢ q →
+          map.insert (map.remove (indices_of es) q) to e.index ≡ indices_of (without start_of s (with_entry start_of (record { start = to; index = e.index }) es))
+      moved_entries q same apart =
+          moved_later (indices_of es) q to e.index apart
+          ∙ ap (λ (k : ℕ). map.remove (map.insert (indices_of es) to e.index) k) same
+          ∙ sym (taken_table start_of index_of s (with_entry start_of (record { start = to; index = e.index }) es)
+          ∙ ap (λ (m : map.FinMap nat_cmp ℕ). map.remove m s) (put_table start_of index_of (record { start = to; index = e.index }) es))
 
       pub item_moved : AreIndexed (indices_of (without start_of s (with_entry start_of (record { start = to; index = e.index }) es))) (slice_set vs e.index moved_item)
       item_moved =
           let at = item_read es vs i s e old found read in
+          let none_there = no_index (indices_of es) vs i to none in
           subst (λ (m : map.FinMap nat_cmp ℕ). AreIndexed m (slice_set vs e.index moved_item))
-          (ap (λ (q : ℕ). map.remove (map.insert (indices_of es) to e.index) q) at.1 ∙ sym moved_entries)
+          (moved_entries old.start at.1 (λ f. cc (sym (i.found e.index old at.0) ∙ ap (λ (q : ℕ). map.get (indices_of es) q) (sym f) ∙ none_there)))
           (moved (indices_of es) vs (slice_set vs e.index moved_item) i e.index old at.0 (λ j n. set_other vs e.index moved_item j n)
-          moved_item (set_here vs e.index moved_item within) (no_index (indices_of es) vs i to none))
+          moved_item (set_here vs e.index moved_item within) (λ _. none_there))
 
       pub values_with_moved : values_of (slice_set vs e.index moved_item) ≡ map.insert (map.remove (values_of vs) s) to old.value
       values_with_moved =
           let at = item_read es vs i s e old found read in
           values_moved (indices_of es) vs (slice_set vs e.index moved_item) i e.index old at.0 (λ j n. set_other vs e.index moved_item j n)
-          moved_item (set_here vs e.index moved_item within) (no_index (indices_of es) vs i to none)
+          moved_item (set_here vs e.index moved_item within) (λ _. no_index (indices_of es) vs i to none)
           ∙ ap (λ (q : ℕ). map.insert (map.remove (values_of vs) q) to old.value) at.1
 
     -- An item is taken out, and the last one takes its place.
@@ -274,18 +276,31 @@ module _ {X : Type 0} (es : List IndexAt) (vs : List (ValueAt X)) (i : AreIndexe
                 ∙ ap (λ (q : ℕ). map.remove (values_of vs) q) item.2,
           )
       left_by (inr n) =
+          let l = length vs - 1 in
           let here = out_here vs e.index d within n in
-          let past = out_past vs e.index d within in
           let end = end_item vs e.index d within in
-          let same : (j : ℕ) → j ≢ e.index → j ≢ length vs - 1 → slice_get left j ≡ slice_get vs j = λ j p q. out_other vs e.index d within j p q in
+          let mid = take l vs in
+          let first : (j : ℕ) → j ≢ l → slice_get mid j ≡ slice_get vs j = λ j m. first_kept vs e.index d within j m in
+          let gone : slice_get mid l ≡ None = take_past l vs l (omega arith) in
+          let fewer = cut (indices_of es) vs mid i l the_last end first gone in
+          let there : slice_get mid e.index ≡ Some item.0 = first e.index n ∙ item.1 in
+          let free : the_last.start ≢ item.0.start → map.get (map.remove (indices_of es) the_last.start) the_last.start ≡ None =
+          λ _. without_here (indices_of es) the_last.start in
+          let same : (j : ℕ) → j ≢ e.index → slice_get left j ≡ slice_get mid j = λ j m. out_kept vs e.index d within j m in
           let entries =
-          put_table start_of index_of (record { start = the_last.start; index = e.index }) others
-          ∙ ap (λ (m : map.FinMap nat_cmp ℕ). map.insert m the_last.start e.index)
-          (others_indices ∙ ap (λ (q : ℕ). map.remove (indices_of es) q) (sym item.2)) in (
+          put_again (indices_of es) the_last.start item.0.start e.index
+          ∙ ap (λ (q : ℕ). map.insert (map.remove (indices_of es) q) the_last.start e.index) item.2
+          ∙ ap (λ (m : map.FinMap nat_cmp ℕ). map.insert m the_last.start e.index) (sym others_indices)
+          ∙ sym (put_table start_of index_of (record { start = the_last.start; index = e.index }) others) in
+          let value = value_here (indices_of es) vs i the_last.start l the_last (i.found l the_last end) end in (
             subst (λ (o : Option (ValueAt X)). AreIndexed (indices_of (renumbered o e.index others)) left) (sym here)
-                (subst (λ (m : map.FinMap nat_cmp ℕ). AreIndexed m left) (sym entries)
-                (swapped (indices_of es) vs left i e.index (length vs - 1) item.0 the_last n item.1 end here past same)),
-            values_swapped (indices_of es) vs left i e.index (length vs - 1) item.0 the_last n item.1 end here past same
+                (subst (λ (m : map.FinMap nat_cmp ℕ). AreIndexed m left) entries
+                (moved (map.remove (indices_of es) the_last.start) mid left fewer e.index item.0 there same the_last here free)),
+            values_moved (map.remove (indices_of es) the_last.start) mid left fewer e.index item.0 there same the_last here free
+                ∙ ap (λ (m : map.FinMap nat_cmp X). map.insert (map.remove m item.0.start) the_last.start the_last.value)
+                (values_cut (indices_of es) vs mid i l the_last end first gone)
+                ∙ put_again (values_of vs) the_last.start item.0.start the_last.value
+                ∙ kept_value (values_of vs) the_last.start item.0.start the_last.value value (λ f. last_start n (f ∙ item.2))
                 ∙ ap (λ (q : ℕ). map.remove (values_of vs) q) item.2,
           )
 

@@ -1,43 +1,5 @@
 -- Tables and maps after several ranges got their values.
-use Rattle.std.proofs.Common.{
-  ◌≡◌,
-  ◌≢◌,
-  ◌↔◌,
-  ◌⊎◌,
-  ℕ,
-  zero,
-  suc,
-  ◌+◌,
-  ◌<◌,
-  ◌≤◌,
-  List,
-  [],
-  ◌∷◌,
-  length,
-  drop,
-  get_or,
-  ◌++◌,
-  length-append,
-  length-drop,
-  Option,
-  Some,
-  None,
-  IsSome,
-  is_some,
-  MatchOption,
-  Result,
-  Ok,
-  Err,
-  arith,
-  refl,
-  sym,
-  ap,
-  ◌∙◌,
-  subst,
-  inl,
-  inr,
-  ⊎_elim,
-}
+use Rattle.std.proofs.Common.{◌≡◌, ◌≢◌, ◌↔◌, ◌⊎◌, ℕ, zero, suc, ◌+◌, ◌<◌, ◌≤◌, List, [], ◌∷◌, length, drop, get_or, ◌++◌, length-append, length-drop, Option, Some, None, IsSome, is_some, MatchOption, Result, Ok, Err, arith, refl, sym, ap, ◌∙◌, subst, inl, inr, ⊎_elim}
 use Rattle.std.proofs.Math.Seq.{drop-cons}
 use Rattle.std.specs.Prelude.{if◌then◌else◌}
 use Rattle.std.specs.List.{Contains}
@@ -115,10 +77,6 @@ module _ {X : Type 0} where
     pub next_new : (m : map.FinMap nat_cmp X) (vs : List X) → AreNewStarts m rs → map.get (with_values m (drop (at + 1) rs) vs) r.start ≡ None
     next_new m vs n = first_new m r (drop (at + 1) rs) vs (subst (λ (v : List Range). AreNewStarts m v) (cut_first rs at r l is) (last_new m rs at n))
 
-    pub next_inserted : (m : map.FinMap nat_cmp X) (v : X) (vs : List X) →
-        map.insert (with_values m (drop (at + 1) rs) vs) r.start v ≡ with_values m (drop at rs) (v ∷ vs)
-    next_inserted m v vs = rw (cut_first rs at r l is) refl
-
   -- The values that are not left are those of the last ranges.
   pub last_inserted : (m after : map.FinMap nat_cmp X) (rs : List Range) (vs left others : List X) (n k : ℕ) → length rs ≡ length vs →
       vs ≡ left ++ others → k ≡ length left → k ≡ n → AreNewStarts m rs → after ≡ with_values m (drop k rs) others →
@@ -168,14 +126,7 @@ module _ {X : Type 0} where
   -- ---- Allocations one after the other
   swapped : (m : map.FinMap nat_cmp X) (k j : ℕ) (v w : X) → k ≢ j → map.insert (map.insert m k v) j w ≡ map.insert (map.insert m j w) k v
   swapped m k j v w n =
-      same_table _ _ (λ q. grind (
-        arith,
-        n,
-        get_with (map.insert m k v) j w q,
-        get_with m k v q,
-        get_with (map.insert m j w) k v q,
-        get_with m j w q,
-      ))
+      same_table _ _ (λ q. grind (arith, n, get_with (map.insert m k v) j w q, get_with m k v q, get_with (map.insert m j w) k v q, get_with m j w q))
 
   -- A value that is inserted first can be inserted last.
   first_or_last : (m : map.FinMap nat_cmp X) (k : ℕ) (v : X) (rs : List Range) (vs : List X) → ((q : Range) → Contains rs q → q.start ≢ k) →
@@ -259,7 +210,7 @@ no_index i lo hi (r ∷ rs) e =
     (no_index (i + 1) (r.end + 1) hi rs)
 
 -- The result with these ranges, if the first of them that cannot be held has the fault o.
-abbrev MakesBy : Option Error → Type 0 → AddressState → Result AddressState Error → Type 0
+abbrev pub MakesBy : Option Error → Type 0 → AddressState → Result AddressState Error → Type 0
 MakesBy o many state answer =
     MatchOption o (IfElse many (answer ≡ Err Overflow) ((answer ≡ Ok state) ⊎ (answer ≡ Err OutOfMemory))) (λ fault. answer ≡ Err fault)
 

@@ -24,9 +24,6 @@ module _ {X : Type 0} where
   pub without_here : (m : map.FinMap nat_cmp X) (k : ℕ) → map.get (map.remove m k) k ≡ None
   without_here m k = let at = get_without m k k in grind (arith, at)
 
-  pub without_other : (m : map.FinMap nat_cmp X) (k q : ℕ) → q ≢ k → map.get (map.remove m k) q ≡ map.get m q
-  without_other m k q n = let at = get_without m k q in grind (arith, at, n)
-
   -- Tables with the same value at each key are equal.
   pub same_table : (m n : map.FinMap nat_cmp X) → ((q : ℕ) → map.get m q ≡ map.get n q) → m ≡ n
   same_table m n h = map.same_map nat_cmp_total map.nat_cmp-IsAntisymmetric m n h
@@ -54,13 +51,7 @@ module _ {E X : Type 0} (key_of : E → ℕ) (value_of : E → X) where
   -- An entry that is put into the list is inserted into the table.
   pub put_table : (e : E) (es : List E) → table_of (with_entry key_of e es) ≡ map.insert (table_of es) (key_of e) (value_of e)
   put_table e es =
-      same_table _ _ (λ q. grind (
-        arith,
-        got q (with_entry key_of e es),
-        got q es,
-        (entries_are_by_key key_of).put e es q,
-        get_with (table_of es) (key_of e) (value_of e) q,
-      ))
+      same_table _ _ (λ q. grind (arith, got q (with_entry key_of e es), got q es, (entries_are_by_key key_of).put e es q, get_with (table_of es) (key_of e) (value_of e) q))
 
   -- A key that is taken out of the list is removed from the table.
   pub taken_table : (k : ℕ) (es : List E) → table_of (without key_of k es) ≡ map.remove (table_of es) k
@@ -72,6 +63,28 @@ pub moved_nowhere : {X : Type 0} (m : map.FinMap nat_cmp X) (from to : ℕ) (val
     m ≡ map.insert (map.remove m from) to value
 moved_nowhere m from to value e h =
     same_table _ _ (λ q. grind (arith, e, h, get_with (map.remove m from) to value q, get_without m from q))
+
+-- A value can be inserted before another one is removed.
+pub moved_later : {X : Type 0} (m : map.FinMap nat_cmp X) (from to : ℕ) (value : X) → to ≢ from →
+    map.insert (map.remove m from) to value ≡ map.remove (map.insert m to value) from
+moved_later m from to value n =
+    same_table _ _ (λ q. grind (arith, n, get_with (map.remove m from) to value q, get_without m from q, get_without (map.insert m to value) from q, get_with m to value q))
+
+-- A value that is removed before another one is inserted at its key.
+pub replaced_value : {X : Type 0} (m : map.FinMap nat_cmp X) (k : ℕ) (value : X) → map.insert (map.remove m k) k value ≡ map.insert m k value
+replaced_value m k value =
+    same_table _ _ (λ q. grind (arith, get_with (map.remove m k) k value q, get_without m k q, get_with m k value q))
+
+-- A value that is inserted where it is changes nothing, also after another one is removed.
+pub kept_value : {X : Type 0} (m : map.FinMap nat_cmp X) (a b : ℕ) (value : X) → map.get m a ≡ Some value → a ≢ b →
+    map.insert (map.remove m b) a value ≡ map.remove m b
+kept_value m a b value here n = same_table _ _ (λ q. grind (arith, here, n, get_with (map.remove m b) a value q, get_without m b q))
+
+-- A value that was removed together with another one, and is put again at another or at its own index.
+pub put_again : {X : Type 0} (m : map.FinMap nat_cmp X) (a b : ℕ) (value : X) →
+    map.insert (map.remove (map.remove m a) b) a value ≡ map.insert (map.remove m b) a value
+put_again m a b value =
+    same_table _ _ (λ q. grind (arith, get_with (map.remove (map.remove m a) b) a value q, get_without (map.remove m a) b q, get_without m a q, get_with (map.remove m b) a value q, get_without m b q))
 
 -- A key is this one, or another one.
 pub same_or_not : (a b : ℕ) → (a ≡ b) ⊎ (a ≢ b)

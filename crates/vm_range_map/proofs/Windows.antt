@@ -38,10 +38,6 @@ module _ {X : Type 0} (values : map.FinMap nat_cmp X) where
       pub first_valued : IsSome (map.get values r.start) × AreValued values rs
       first_valued = subst (λ (xs : List Range). AreValued values xs) s h
 
-      pub first_taken : (value : X) → Some value ≡ map.get values r.start →
-          filter_map (valued_in values) all ≡ (r, value) ∷ filter_map (valued_in values) rs
-      first_taken value k = ap (λ (xs : List Range). filter_map (valued_in values) xs) s ∙ one_value r _ value _ k
-
     module _ (s : all ≡ rs ++ r ∷ []) where
       pub last_valued : AreValued values rs × IsSome (map.get values r.start)
       last_valued = parted rs r (subst (λ (xs : List Range). AreValued values xs) s h)

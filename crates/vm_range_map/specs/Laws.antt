@@ -1,5 +1,5 @@
 -- Laws of the calls of a map, in every valid state.
-use Rattle.std.specs.Prelude.{◌≡◌, ◌≢◌, ◌↔◌, ℕ, Bool, IsTrue, Option, Some, Result, Ok, Err}
+use Rattle.std.specs.Prelude.{◌≡◌, ◌≢◌, ◌↔◌, ℕ, Bool, IsTrue, List, Option, Some, Result, Ok, Err}
 use Rattle.std.specs.List.{Contains}
 use Rattle.std.specs.Ordering.{nat_cmp}
 use Rattle.std.specs.FinMap as map
@@ -7,7 +7,7 @@ use Rattle.vm_ranges.specs.Range.{Range, IsIn}
 use Rattle.vm_ranges.specs.Request.{Request}
 use Rattle.vm_ranges.specs.declared.error.Error.{Error}
 use Rattle.vm_ranges.specs.declared.error.Error.TheVariants.{OutOfMemory}
-use Rattle.vm_range_map.specs.RangeMaps.{MapState, IsMapState, HasValue, AreCopies, MakesMap, AllocatesWith, FreesWith, IsValueAt, SetsValue, MovesWith}
+use Rattle.vm_range_map.specs.RangeMaps.{MapState, IsMapState, HasValue, AreCopies, MakesMap, MakesMapWithHeld, AllocatesWith, AllocatesEachWith, FreesWith, IsValueAt, SetsValue, MovesWith}
 use Rattle.vm_range_map.specs.Queries.{same_maps}
 
 -- Each range other than r keeps its value.
@@ -39,6 +39,11 @@ pub record MapsDecide (X : Type 0) : Type 0 where
   pub allocated : (old new later : MapState X) (request : Request) (value : X) (answer other : Result Range Error) →
       answer ≢ Err OutOfMemory → other ≢ Err OutOfMemory →
       AllocatesWith old request value answer new → AllocatesWith old request value other later → (answer ≡ other) × (new ≡ later)
+  pub made_with : (base size : ℕ) (held : List Range) (values : List X) (answer other : Result (MapState X) Error) →
+      answer ≢ Err OutOfMemory → other ≢ Err OutOfMemory →
+      MakesMapWithHeld base size held values answer → MakesMapWithHeld base size held values other → answer ≡ other
+  pub allocated_each : (old new later : MapState X) (requests : List Request) (values : List X) (ranges others : List Range) →
+      AllocatesEachWith old requests values ranges new → AllocatesEachWith old requests values others later → (ranges ≡ others) × (new ≡ later)
   pub freed : (old new later : MapState X) (r : Range) (answer other : Result X Error) →
       FreesWith old r answer new → FreesWith old r other later → (answer ≡ other) × (new ≡ later)
   pub moved : (old new later : MapState X) (q : Range) (request : Request) (answer other : Result Range Error) →

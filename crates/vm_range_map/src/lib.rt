@@ -17,8 +17,8 @@
 //! - Ranges are allocated, moved and freed as by `AddressAllocator`.
 //! - A range has the value of its allocation, or that was written last, also after it moves and while other ranges
 //!   change.
-//! - The result of a call without a list depends only on the space, the allocated ranges and their values, unless
-//!   memory runs out.
+//! - The result of a call depends only on the space, the allocated ranges and their values, unless memory runs
+//!   out or `allocate_all` fails.
 //! - An iterator returns each range once, with its value, in order, from both ends, also if only the ranges in a window
 //!   are asked for.
 //! - A copy has the same space and the same ranges, each with a clone of its value.

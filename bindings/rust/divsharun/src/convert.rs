@@ -5,9 +5,12 @@
 //! unless it is the only one. Such a conversion is an impl of `Into` for the proved type instead.
 #![allow(clippy::from_over_into)]
 
+use crate::error::ItemsResult;
 use crate::proved::{vm_addresses as proved, vm_devices, vm_range_map};
+use crate::rattle::Global;
 use crate::TryError;
 use crate::{AddressAllocator, Conflict, DeviceSlot, Error, ListError, RangeInclusive, ValueError};
+use alloc::vec::Vec;
 
 /// Implements the conversions between the errors of callers and those of the proved code, which have the same
 /// variants. Only the proved code has `OutOfMemory`: the process then ends, as with Rust's collections.
@@ -111,6 +114,43 @@ pub(crate) fn list_error<E: From<proved::Error>, C: Into<Conflict>>(
         error: failure.error.into(),
         conflict: failure.index.and_then(conflict).map(Into::into),
     }
+}
+
+/// Makes a call with a list of items and their values, which can be on an object. An error returns the list.
+/// The items are given with the functions that convert one to that of the proved code and back. `conflict` returns
+/// the conflict of the item with an index.
+pub(crate) fn with_items<S, R, K, P, T, C: Into<Conflict>, E: From<proved::Error>>(
+    mut object: S,
+    (mut items, to, from): (Vec<(K, T)>, impl Fn(K) -> P, impl Fn(P) -> K),
+    call: impl FnOnce(
+        &mut S,
+        vm_range_map::ValuedList<P, T>,
+    ) -> core::result::Result<R, vm_range_map::RefusedList<P, T>>,
+    conflict: impl FnOnce(S, &[P], usize) -> Option<C>,
+) -> ItemsResult<R, K, T, E> {
+    let Ok(mut list) = vm_range_map::ValuedList::with_capacity(Global, items.len()) else {
+        return Err(refused_items(items));
+    };
+    for (item, value) in items.drain(..) {
+        // The list has the capacity for each item.
+        let _ = list.push(to(item), value);
+    }
+    call(&mut object, list).map_err(|refused| {
+        let (of_proved, values) = refused.list.into_lists();
+        let error = list_error(refused.error, |index| conflict(object, &of_proved, index));
+        let converted = Vec::from(of_proved).into_iter().map(from);
+        items.extend(converted.zip(Vec::from(values)));
+        ValueError {
+            error,
+            value: items,
+        }
+    })
+}
+
+/// Returns the error of a call with a list of items if memory runs out.
+pub(crate) fn refused_items<V, E: From<proved::Error>>(value: V) -> ValueError<V, ListError<E>> {
+    let error = list_error(proved::Error::OutOfMemory, |_| None::<Conflict>);
+    ValueError { error, value }
 }
 
 /// Ends the process, as Rust's collections do.

@@ -1,13 +1,13 @@
 // SPDX-License-Identifier: Apache-2.0 OR BSD-3-Clause
 use crate::address_allocator::part_of;
-use crate::convert::list_error;
-use crate::error::{AllResult, HeldResult, ItemsResult, TryAllResult, TryHeldResult};
+use crate::convert::{refused_items, with_items};
+use crate::error::{AllResult, HeldResult, TryAllResult, TryHeldResult};
 use crate::error::{TryResult, TryValueResult, ValueResult};
-use crate::proved::vm_addresses::{self, AddressAllocator, Error};
+use crate::proved::vm_addresses::{self, AddressAllocator};
 use crate::proved::vm_range_map as proved;
 use crate::rattle::{self, Global};
 use crate::traits::{allocator, iterate, twins, DebugList};
-use crate::{AllocPolicy, Conflict, Constraint, Gaps, RangeInclusive, Result, ValueError, Window};
+use crate::{AllocPolicy, Conflict, Constraint, Gaps, RangeInclusive, Result, Window};
 use alloc::vec::Vec;
 use core::fmt;
 
@@ -107,7 +107,7 @@ impl<T> RangeMap<T> {
         #[doc(alias = "from_iter")]
         pub fn with_held(base: u64, size: u64, held: Vec<(RangeInclusive, T)>) -> HeldResult<T> {
             let space = vm_addresses::RangeInclusive::from_start_len(base, size).ok();
-            let made = with_list(
+            let made = with_items(
                 space,
                 (held, |range| range.0, RangeInclusive),
                 |_, held| proved::RangeMap::with_held(Global, base, size, held),
@@ -149,10 +149,10 @@ impl<T> RangeMap<T> {
         pub fn allocate_all(&mut self, requests: Vec<(Constraint, T)>) -> AllResult<T> {
             // Nothing can fail after the allocation of the ranges.
             let Ok(ranges) = rattle::Vec::with_capacity(Global, requests.len()) else {
-                return Err(out_of_memory(requests));
+                return Err(refused_items(requests));
             };
             let mut ranges = Vec::from(ranges);
-            let allocated = with_list(
+            let allocated = with_items(
                 &mut self.0,
                 (requests, |request| request.0, Constraint),
                 |map, requests| map.allocate_all(Global, requests),
@@ -499,43 +499,6 @@ impl<T> RangeMap<T> {
     {
         Ok(RangeMap(self.0.try_clone(Global)?))
     }
-}
-
-/// Makes a call with a list of items and their values, which can be on an object. An error returns the list.
-/// The items are given with the functions that convert one to that of the proved code and back. `conflict` returns
-/// the conflict of the item with an index.
-fn with_list<S, R, K, P, T, C: Into<Conflict>, E: From<Error>>(
-    mut object: S,
-    (mut items, to, from): (Vec<(K, T)>, impl Fn(K) -> P, impl Fn(P) -> K),
-    call: impl FnOnce(
-        &mut S,
-        proved::ValuedList<P, T>,
-    ) -> core::result::Result<R, proved::RefusedList<P, T>>,
-    conflict: impl FnOnce(S, &[P], usize) -> Option<C>,
-) -> ItemsResult<R, K, T, E> {
-    let Ok(mut list) = proved::ValuedList::with_capacity(Global, items.len()) else {
-        return Err(out_of_memory(items));
-    };
-    for (item, value) in items.drain(..) {
-        // The list has the capacity for each item.
-        let _ = list.push(to(item), value);
-    }
-    call(&mut object, list).map_err(|refused| {
-        let (of_proved, values) = refused.list.into_lists();
-        let error = list_error(refused.error, |index| conflict(object, &of_proved, index));
-        let converted = Vec::from(of_proved).into_iter().map(from);
-        items.extend(converted.zip(Vec::from(values)));
-        ValueError {
-            error,
-            value: items,
-        }
-    })
-}
-
-/// Returns the error of a call with a list if memory runs out.
-fn out_of_memory<V, E: From<Error>>(value: V) -> ValueError<V, crate::ListError<E>> {
-    let error = list_error(Error::OutOfMemory, |_| None::<Conflict>);
-    ValueError { error, value }
 }
 
 allocator! {

@@ -339,9 +339,23 @@ const OF_MAPS: [Calls<RangeMap<u64>>; 5] = [
 ];
 
 /// Two equal maps. The calls go through all of their ranges.
-const OF_PAIRS_OF_MAPS: [Calls<[RangeMap<u64>; 2]>; 2] = [
+const OF_PAIRS_OF_MAPS: [Calls<[RangeMap<u64>; 2]>; 4] = [
     |[one, other], _| one == other && one.clone() == other.try_clone().unwrap(),
     |[one, _], _| one.iter().rev().count() as u64 == one.held_count(),
+    |[one, _], _| {
+        let list = one.iter().map(|(range, value)| (range, *value)).collect();
+        let space = one.space();
+        RangeMap::with_held(space.start(), space.len(), list).as_ref() == Ok(&*one)
+    },
+    |[one, _], _| {
+        let ranges = one.iter();
+        let list = ranges
+            .map(|(range, value)| (exact(range.start()), *value))
+            .collect();
+        let space = one.space();
+        let mut made = RangeMap::try_new(space.start(), space.len()).unwrap();
+        made.allocate_all(list).is_ok() && made == *one
+    },
 ];
 
 #[cfg(feature = "serde")]

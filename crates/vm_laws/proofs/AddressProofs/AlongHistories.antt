@@ -32,7 +32,7 @@ use Rattle.vm_ranges.proofs.Clones.{cloning_keeps}
 use Rattle.vm_ranges.proofs.Histories.{history_keeps}
 use Rattle.vm_addresses.proofs.Results.Once.{allocates_once, frees_once}
 use Rattle.vm_addresses.proofs.Callers.{given, request_inside}
-use Rattle.vm_laws.proofs.AddressProofs.SeveralOnce.{all_once}
+use Rattle.vm_addresses.proofs.Results.SeveralOnce.{all_once}
 use Rattle.vm_addresses.proofs.Histories.MoveSteps.{IsNewPlace, move_state, move_gives, moves_once}
 use Rattle.vm_laws.proofs.AddressProofs.HeldOnes.{held_state}
 use Rattle.vm_addresses.proofs.Blocks.HeldSets.{same_ranges_held}

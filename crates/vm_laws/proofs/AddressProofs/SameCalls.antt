@@ -6,7 +6,7 @@ use Rattle.vm_addresses.proofs.Results.Once.{frees_once}
 use Rattle.vm_addresses.specs.Histories.AddressHistories.{Allocate, AllocateAll, Free, MoveTo, Clone, IsCallFrom}
 use Rattle.vm_addresses.proofs.Results.InMemory.{same_in_memory, placed_once}
 use Rattle.vm_addresses.proofs.Histories.MoveSteps.{moves_once}
-use Rattle.vm_laws.proofs.AddressProofs.SeveralOnce.{all_once}
+use Rattle.vm_addresses.proofs.Results.SeveralOnce.{all_once}
 
 call_once : CallsAreDetermined IsCallFrom
 call_once old new later (Allocate q) x y p m h k = placed_once old new later q x y p m h k

@@ -28,7 +28,7 @@ given_or_refused old mid after q r e a b =
     (allocates_once old mid after q (Ok r) (Err e) a b)
 
 -- ---- A list of requests
-each_once : (qs : List Request) (rs ps : List Range) (old new later : AddressState) → AllocatesEach old qs rs new →
+pub each_once : (qs : List Request) (rs ps : List Range) (old new later : AddressState) → AllocatesEach old qs rs new →
     AllocatesEach old qs ps later → (rs ≡ ps) × (new ≡ later)
 each_once [] [] [] old new later a b = (refl, a ∙ sym b)
 each_once [] [] (p ∷ ps) old new later a b = absurd b
