@@ -62,7 +62,7 @@
  * text, and nothing is allocated after its first fault.
  *
  * Cost. Let k be the number of allocated ranges. Allocating, moving and freeing
- * a range takes time of the order of log k, and so do dvs_range_conflict(),
+ * a range takes time of the order of log k, and so do dvs_range_peek(), dvs_range_conflict(),
  * dvs_range_is_allocated(), dvs_range_at() and dvs_gap_at(). An alignment can make
  * the search for a range visit more gaps. A visit or list within a range or from an
  * address takes time of the order of log k, plus the number of allocated ranges and gaps up to
@@ -547,9 +547,7 @@ dvs_status dvs_address_allocator_allocate_all(dvs_address_allocator *allocator,
 
 /*
  * Writes to `range` the range that dvs_range_allocate() would allocate now, and changes
- * nothing. So a configuration can be checked before it is begun. For DVS_FIRST and DVS_LAST
- * it goes through the ranges and gaps of the window up to the result. It does not allocate
- * memory.
+ * nothing. So a configuration can be checked before it is begun. It does not allocate memory.
  *
  * Errors: those of dvs_range_allocate() except DVS_OUT_OF_MEMORY, in the same order.
  */

@@ -30,13 +30,23 @@ const ROUNDS: usize = 5;
 type Calls<O> = fn(&mut O, u64) -> bool;
 
 /// Every second address is allocated.
-const OF_SPACES: [Calls<AddressAllocator>; 19] = [
+const OF_SPACES: [Calls<AddressAllocator>; 20] = [
     |space, at| space.held_at(at).is_some() && space.gap_at(at + 1).is_some(),
     |space, at| space.holds(&one(at)) && !space.holds(&one(at + 1)),
     |space, _| space.held_count() == space.gap_count() && space.free_len() == space.gap_count(),
     |space, _| space.longest_gap() == 1 && space.base() < space.end() && space.height() > 1,
     |space, at| AddressAllocator::over(space.space()).free_len() > at,
     |space, at| space.conflict(exact(at)).is_some() && space.conflict(exact(at + 1)).is_none(),
+    |space, at| {
+        let near = Constraint::new(1, 1, FirstMatch).unwrap().within(from(at));
+        let [first, last, none] = [(1, FirstMatch), (1, LastMatch), (2, LastMatch)]
+            .map(|(size, policy)| space.peek(Constraint::new(size, 1, policy).unwrap()));
+        first == Ok(one(1))
+            && last == Ok(one(space.end()))
+            && none.is_err()
+            && space.peek(near.unwrap()) == Ok(one(at + 1))
+            && space.peek(exact(at + 1)) == Ok(one(at + 1))
+    },
     |space, _| has_ends(space.held_ranges(), is_counted),
     |space, _| has_ends(space.gaps(), is_counted),
     |space, at| {

@@ -561,6 +561,8 @@ fn no_request_is_made() {
         let exact = request(8, ExactMatch(9));
         assert_eq!(space.conflict(exact), Some(Conflict::Allocated(held[0])));
         assert_eq!(devices.conflict(exact), None);
+        let last = space.peek(request(8, LastMatch));
+        assert_eq!(last.map(|range| range.end()), Ok(63));
         let error = Error::Overlap(held[0], held[1]);
         let failure = ListError {
             index: None,
