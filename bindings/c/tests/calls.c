@@ -849,6 +849,7 @@ static const struct quick {
     {FREE_LENGTH, {0}, 0},
     {LONGEST_GAP, {0}, 0},
     {RANGE_AT, {NEAR(1)}, 0},
+    {PEEK_RANGE, {0}, 0},
     {GAP_AT, {NEAR(2)}, 0},
     {LIST_RANGES, {NEAR(2)}, 0},
     {LIST_GAPS, {NEAR(2)}, 0},
@@ -870,12 +871,14 @@ static const struct quick {
     {ID_COUNT, {0}, 0},
     {FREE_COUNT, {0}, 0},
     {ID_ENDS, {0}, 0},
+    {LIST_IDS, {NEAR(1)}, 0},
     {ID, {0}, FREE_ID},
     {ID_EXACT, {NEAR(1)}, FREE_ID},
     {ID_IN, {NEAR(2), NEAR(3)}, FREE_ID},
     {DEVICE_SLOT, {NTH}, 0},
     {DEVICE_AT, {NEAR(1)}, 0},
     {DEVICE_COUNT, {0}, 0},
+    {LIST_DEVICES, {NTH}, 0},
     {DEVICE_SPACE, {0}, 0},
     {DEVICE_IDS, {0}, 0},
     {DEVICE_CONFLICT, {0}, 0},
@@ -942,10 +945,11 @@ static clock_t time_quick(const struct quick *row, void *object, uint64_t count)
  * dvs_longest_gap() and the ends of a space or of a range of ids take constant time." */
 
 /* divsharun.h: "Let k be the number of allocated ranges. Allocating, moving and freeing a range
- * takes time of the order of log k, and so do dvs_range_conflict(), dvs_range_is_allocated(),
- * dvs_range_at() and dvs_gap_at(). An alignment can make the search for a range visit more gaps. A
- * visit or list within a range or from an address takes time of the order of log k, plus the number
- * of allocated ranges and gaps up to where it ends." */
+ * takes time of the order of log k, and so do dvs_range_peek(), dvs_range_conflict(),
+ * dvs_range_is_allocated(), dvs_range_at() and dvs_gap_at(). An alignment can make the search for a
+ * range visit more gaps. A visit or list within a range or from an address takes time of the order
+ * of log k, plus the number of allocated ranges and gaps up to where it ends. A list of ids or
+ * devices does too, with ids, runs of freed ids, and devices." */
 
 /* Compares the shortest times in small and in large objects. A linear call takes a hundred times as
  * long. */
