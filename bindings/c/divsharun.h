@@ -208,7 +208,7 @@ typedef struct dvs_refusal {
 
 /*
  * The causes. The first one that applies is written, in this order: outside the space,
- * outside the window, allocated, an earlier request, no fit. A call looks for the cause
+ * outside the window, allocated or an earlier request, no fit. A call looks for the cause
  * only if its `refusal` is not null. dvs_cause_text() returns the first sentence of a
  * comment without its period, but an empty text for DVS_CAUSE_NONE.
  *
@@ -218,7 +218,8 @@ enum {
     /*
      * There is no cause. The call has no conflict, another error or no free id, or the range
      * to move is not allocated. Or no start is given, the window has addresses of the space,
-     * and the call is a move, a check for conflicts, or for a request after the first one.
+     * and the call is a move or a check for conflicts. Or memory runs out for the cause of a
+     * request after the first one.
      */
     DVS_CAUSE_NONE = 0,
     /* An address is allocated. `other` is the lowest allocated range that has one. */
@@ -230,7 +231,10 @@ enum {
     DVS_CAUSE_OUTSIDE_SPACE = 2,
     /* An address is outside the window of the request. `other` is the window. */
     DVS_CAUSE_OUTSIDE_WINDOW = 3,
-    /* An address is in the range of an earlier request of the same call. `other` is 0 to 0. */
+    /*
+     * An address is in the range of an earlier request of the same call. `other` is that range, the
+     * lowest range in the way. It is free again.
+     */
     DVS_CAUSE_EARLIER_REQUEST = 4,
     /* The range does not start after the end of the range before it. `other` is that range. */
     DVS_CAUSE_NOT_AFTER = 5,

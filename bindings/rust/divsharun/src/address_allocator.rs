@@ -537,7 +537,9 @@ impl AddressAllocator {
             };
             allocate().map_err(|failure: proved::ListError| {
                 list_error(failure, |index| {
-                    self.0.conflict(requests.get(index)?.0)
+                    let earlier = converted(requests.get(..index)?, |request| request.0).ok()?;
+                    let request = requests.get(index)?.0;
+                    self.0.conflict_after(Global, &earlier, request).ok()?
                 })
             })
         }
