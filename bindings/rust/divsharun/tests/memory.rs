@@ -45,13 +45,14 @@ type EndedCall = fn(&mut AddressAllocator);
 // src/lib.rs: "Allocating or moving a range allocates nothing if its leaf has room. Otherwise it
 // allocates a leaf, a node for each full node right above the leaf, one for a new root if all are full,
 // and a list of these nodes. A move to a part of the gap that it leaves always allocates a leaf, and a
-// list of nodes for the highest tree of these ranges. `allocate_all` also allocates three lists. A copy
-// allocates all leaves and nodes, `with_held` also a list, and `with_free` two."
+// list of nodes for the highest tree of these ranges. `allocate_all` also allocates three lists, and two
+// more if a request fails. A copy allocates all leaves and nodes, `with_held` also a list, and
+// `with_free` two."
 
 /// Calls that return an error, each with the number of its allocations on [`full_leaf`]: one for each
 /// leaf and inner node of a new tree or of a copy, and three for a split of the full leaf. A call with
-/// ranges copies the list, and one with requests makes three lists. Holes between free ranges are a list
-/// too.
+/// ranges copies the list, and one with requests makes three lists, and two more for its conflict. Holes
+/// between free ranges are a list too.
 const TRIED: [(u64, TriedCall); 43] = [
     (1, |_| AddressAllocator::try_new(0, 64).map(drop)),
     (1, |_| AddressAllocator::try_over(both()[0]).map(drop)),
@@ -82,7 +83,7 @@ const TRIED: [(u64, TriedCall); 43] = [
         of_list(space.try_allocate_all(&three_requests()))
     }),
     (0, |space| of_list(space.try_allocate_all(&[]))),
-    (3 + SPLIT, |space| {
+    (5 + SPLIT, |space| {
         refused(space.try_allocate_all(&[request(4, FirstMatch), request(64, FirstMatch)]))
     }),
     (SPLIT, |space| {
