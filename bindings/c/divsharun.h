@@ -62,7 +62,7 @@
  * text, and nothing is allocated after its first fault.
  *
  * Cost. Let k be the number of allocated ranges. Allocating, moving and freeing
- * a range takes time of the order of log k, and so do dvs_range_conflict(),
+ * a range takes time of the order of log k, and so do dvs_range_peek(), dvs_range_conflict(),
  * dvs_range_is_allocated(), dvs_range_at() and dvs_gap_at(). An alignment can make
  * the search for a range visit more gaps. A visit or list within a range or from an
  * address takes time of the order of log k, plus the number of allocated ranges and gaps up to
@@ -208,7 +208,7 @@ typedef struct dvs_refusal {
 
 /*
  * The causes. The first one that applies is written, in this order: outside the space,
- * outside the window, allocated, an earlier request, no fit. A call looks for the cause
+ * outside the window, allocated or an earlier request, no fit. A call looks for the cause
  * only if its `refusal` is not null. dvs_cause_text() returns the first sentence of a
  * comment without its period, but an empty text for DVS_CAUSE_NONE.
  *
@@ -218,7 +218,8 @@ enum {
     /*
      * There is no cause. The call has no conflict, another error or no free id, or the range
      * to move is not allocated. Or no start is given, the window has addresses of the space,
-     * and the call is a move, a check for conflicts, or for a request after the first one.
+     * and the call is a move or a check for conflicts. Or memory runs out for the cause of a
+     * request after the first one.
      */
     DVS_CAUSE_NONE = 0,
     /* An address is allocated. `other` is the lowest allocated range that has one. */
@@ -230,7 +231,10 @@ enum {
     DVS_CAUSE_OUTSIDE_SPACE = 2,
     /* An address is outside the window of the request. `other` is the window. */
     DVS_CAUSE_OUTSIDE_WINDOW = 3,
-    /* An address is in the range of an earlier request of the same call. `other` is 0 to 0. */
+    /*
+     * An address is in the range of an earlier request of the same call. `other` is that range, the
+     * lowest range in the way. It is free again.
+     */
     DVS_CAUSE_EARLIER_REQUEST = 4,
     /* The range does not start after the end of the range before it. `other` is that range. */
     DVS_CAUSE_NOT_AFTER = 5,
@@ -547,9 +551,7 @@ dvs_status dvs_address_allocator_allocate_all(dvs_address_allocator *allocator,
 
 /*
  * Writes to `range` the range that dvs_range_allocate() would allocate now, and changes
- * nothing. So a configuration can be checked before it is begun. For DVS_FIRST and DVS_LAST
- * it goes through the ranges and gaps of the window up to the result. It does not allocate
- * memory.
+ * nothing. So a configuration can be checked before it is begun. It does not allocate memory.
  *
  * Errors: those of dvs_range_allocate() except DVS_OUT_OF_MEMORY, in the same order.
  */

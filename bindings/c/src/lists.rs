@@ -4,12 +4,12 @@
 use crate::handle::{non_null, Handle};
 use crate::objects::calls;
 use crate::proved::vm_addresses::{
-    AddressAllocator, AllocPolicy, Constraint, ListConflict, ListError, RangeInclusive,
+    AddressAllocator, Conflict, Constraint, ListConflict, ListError, RangeInclusive,
 };
 use crate::proved::vm_range_map::ValuedList;
 use crate::ranges::dvs_address_allocator;
 use crate::rattle::{self, Global};
-use crate::requests::{because_of, dvs_request, in_the_way, no_range, refused};
+use crate::requests::{dvs_request, in_the_way, no_fit, refused, window_of};
 use crate::status::{
     DVS_CAUSE_EARLIER_REQUEST, DVS_CAUSE_ENDS_AT_MAX, DVS_CAUSE_NOT_AFTER, DVS_CAUSE_OUTSIDE_SPACE,
     DVS_NULL, DVS_OUT_OF_MEMORY,
@@ -117,22 +117,15 @@ pub(crate) fn checked(range: &dvs_range) -> Result<RangeInclusive, CallError> {
     Ok((*range).try_into()?)
 }
 
-/// Returns the error of a list of requests, whose ranges were freed again.
+/// Returns the error of a list of requests, whose ranges were freed again. Its details are those of a request after
+/// the requests before it.
 pub(crate) fn refused_all(
     ListError { index, error }: ListError,
     wants_details: bool,
     requests: &[Constraint],
-    space: &AddressAllocator,
+    no_range: impl FnOnce(&[Constraint], Constraint) -> Option<dvs_refusal>,
 ) -> CallError {
-    let details = || {
-        let index = index?;
-        let request = *requests.get(index)?;
-        // The gaps are those of the first request.
-        match index {
-            0 => no_range(request, space),
-            _ => in_the_way(request, space.conflict(request)).or_else(|| earlier(request)),
-        }
-    };
+    let details = || no_range(requests.get(..index?)?, *requests.get(index?)?);
     let failure = refused(error, wants_details, details);
     CallError { index, ..failure }
 }
@@ -182,11 +175,24 @@ fn not_after(
     })
 }
 
-/// Returns the details of a request for a given start that only an earlier request of its list is in the way
-/// of. `allocate_all` has freed the range of that one.
-fn earlier(request: Constraint) -> Option<dvs_refusal> {
-    let is_exact = matches!(request.policy(), AllocPolicy::ExactMatch(_));
-    is_exact.then(|| because_of(DVS_CAUSE_EARLIER_REQUEST, request, dvs_range::default()))
+/// Returns the details of a request that gets no range after the requests before it in a list, which the allocator
+/// does not keep.
+pub(crate) fn no_range_after(
+    object: &mut AddressAllocator,
+    earlier: &[Constraint],
+    request: Constraint,
+) -> Option<dvs_refusal> {
+    let conflict = object.conflict_after(Global, earlier, request).ok()?;
+    let Some(mut details) = in_the_way(request, conflict) else {
+        let window = window_of(request, object);
+        return Some(no_fit(
+            object.longest_gap_after(Global, earlier, &window).ok()?,
+        ));
+    };
+    if matches!(conflict, Some(Conflict::Allocated(range)) if !object.holds(&range)) {
+        details.cause = DVS_CAUSE_EARLIER_REQUEST;
+    }
+    Some(details)
 }
 
 calls! {
@@ -220,7 +226,9 @@ calls! {
         let requests = unsafe { converted(requests, count, dvs_request::constraint) }?;
         let allocated = object.allocate_all(Global, &requests);
         let allocated = allocated
-            .map_err(|failure| refused_all(failure, refusal.is_some(), &requests, object))?;
+            .map_err(|failure| refused_all(failure, refusal.is_some(), &requests, |earlier, request| {
+                no_range_after(object, earlier, request)
+            }))?;
         // SAFETY: the array has a writable range for each request.
         unsafe { write_all(&allocated, ranges) };
     }

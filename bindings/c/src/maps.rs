@@ -2,7 +2,9 @@
 //! The map from allocated ranges to values.
 
 use crate::handle::{found, non_null, Handle};
-use crate::lists::{array, checked, converted, fill, refused_all, refused_list, valued, write_all};
+use crate::lists::{
+    array, checked, converted, fill, no_range_after, refused_all, refused_list, valued, write_all,
+};
 use crate::objects::{calls, object_calls, visits};
 use crate::proved::vm_addresses::RangeInclusive;
 use crate::proved::vm_range_map::RangeMap;
@@ -62,7 +64,10 @@ calls! {
         };
         let list = valued(&requests, values.iter().copied())?;
         let allocated = map.allocate_all(Global, list).map_err(|refused| {
-            refused_all(refused.error, refusal.is_some(), &requests, map.addresses())
+            refused_all(refused.error, refusal.is_some(), &requests, |earlier, request| {
+                let mut space = map.addresses().try_clone(Global).ok()?;
+                no_range_after(&mut space, earlier, request)
+            })
         })?;
         // SAFETY: the array has a writable range for each request.
         unsafe { write_all(&allocated, ranges) };

@@ -58,7 +58,7 @@ fn write_cause(to: &mut Buffer, status: dvs_status, refusal: &dvs_refusal) -> fm
         DVS_CAUSE_OUTSIDE_SPACE => write!(to, "{range} is outside the space {other}"),
         DVS_CAUSE_OUTSIDE_WINDOW => write!(to, "{range} is outside the window {other}"),
         DVS_CAUSE_EARLIER_REQUEST => {
-            write!(to, "{range} overlaps the range of an earlier request")
+            write!(to, "{range} overlaps {other} of an earlier request")
         }
         DVS_CAUSE_NOT_AFTER => write!(to, "{range} does not start after {other}"),
         DVS_CAUSE_ENDS_AT_MAX => write!(to, "{range} ends at the last address"),

@@ -88,17 +88,25 @@ pub(crate) fn in_the_way(request: Constraint, conflict: Option<Conflict>) -> Opt
     Some(because_of(cause, request, other.into()))
 }
 
+/// Returns the window of a request, or the space if it has none.
+pub(crate) fn window_of(request: Constraint, space: &AddressAllocator) -> RangeInclusive {
+    request.window().unwrap_or(space.space())
+}
+
 /// Returns the details of a request that gets no range: what is in the way of it, or the longest gap of its window.
 pub(crate) fn no_range(request: Constraint, space: &AddressAllocator) -> Option<dvs_refusal> {
-    in_the_way(request, space.conflict(request)).or_else(|| {
-        let window = request.window().unwrap_or(space.space());
-        let none = dvs_range { start: 1, end: 0 };
-        Some(dvs_refusal {
-            other: space.longest_gap_in(&window).map_or(none, Into::into),
-            cause: DVS_CAUSE_NO_FIT,
-            ..dvs_refusal::default()
-        })
-    })
+    let no_fit = || no_fit(space.longest_gap_in(&window_of(request, space)));
+    in_the_way(request, space.conflict(request)).or_else(|| Some(no_fit()))
+}
+
+/// Returns the details of a request that fits no gap.
+pub(crate) fn no_fit(longest: Option<RangeInclusive>) -> dvs_refusal {
+    let none = dvs_range { start: 1, end: 0 };
+    dvs_refusal {
+        other: longest.map_or(none, Into::into),
+        cause: DVS_CAUSE_NO_FIT,
+        ..dvs_refusal::default()
+    }
 }
 
 /// Returns the details of a range that cannot be freed, which are those of a request for this range.

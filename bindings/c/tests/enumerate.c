@@ -590,15 +590,16 @@ static void allocate_none(void) {
         {{0x1000, 1, 0, DVS_EXACT, 0, 0},
          DVS_INVALID_STATE_TRANSITION,
          DVS_CAUSE_EARLIER_REQUEST,
-         {0, 0}},
-        {{0x1000, 1, 0, DVS_LAST, 0, 0}, DVS_RESOURCE_NOT_AVAILABLE, 0, {0, 0}},
+         {0, 0xfff}},
+        {{0x1000, 1, 0, DVS_LAST, 0, 0}, NO_PLACE(NO_FIT), {0x2800, 0x2fff}},
         {{1, 1, 0, DVS_FIRST, 0x4000, 0}, NO_PLACE(OUTSIDE_SPACE), {0, 0x3fff}},
         /* The first two requests have 0 to 0xfff and 0x2000 to 0x27ff. */
         /* divsharun.h: "An address is in the range of an earlier request of the same call. `other`
-         * is 0 to 0." */
-        {{1, 1, 0xfff, DVS_EXACT, 0, 0}, NO_PLACE(EARLIER_REQUEST), {0, 0}},
-        {{0x900, 1, 0x2700, DVS_EXACT, 0, 0}, NO_PLACE(EARLIER_REQUEST), {0, 0}},
-        {{0x2000, 1, 0x800, DVS_EXACT, 0, 0}, NO_PLACE(ALLOCATED), {0x1000, 0x1fff}},
+         * is that range, the lowest range in the way." */
+        {{1, 1, 0xfff, DVS_EXACT, 0, 0}, NO_PLACE(EARLIER_REQUEST), {0, 0xfff}},
+        {{0x900, 1, 0x2700, DVS_EXACT, 0, 0}, NO_PLACE(EARLIER_REQUEST), {0x2000, 0x27ff}},
+        {{0x2000, 1, 0x800, DVS_EXACT, 0, 0}, NO_PLACE(EARLIER_REQUEST), {0, 0xfff}},
+        {{0x1800, 1, 0x1000, DVS_EXACT, 0, 0}, NO_PLACE(ALLOCATED), {0x1000, 0x1fff}},
         {{0x4000, 1, 1, DVS_EXACT, 0, 0}, NO_PLACE(OUTSIDE_SPACE), {0, 0x3fff}},
         {{1, 1, 0, DVS_EXACT, 0x4000, 0}, NO_PLACE(OUTSIDE_WINDOW), {0x4000, UINT64_MAX}},
         {{1, 1, UINT64_MAX, DVS_EXACT, 0, 0}, DVS_OVERFLOW, 0, {0, 0}},
@@ -634,7 +635,11 @@ static void allocate_none(void) {
               first->status);
         CHECK(failed == (is_third ? 2 : 3) && is_range(ranges[0], 1, 2) && refusal.id == 0);
         CHECK(refusal.cause == first->cause);
-        CHECK(is_range(refusal.other, first->other.start, first->other.end));
+        /* If the third request gets 0x2fff, the gap from 0x3800 on is the longest. */
+        if (first->cause == DVS_CAUSE_NO_FIT && !is_third)
+            CHECK(is_range(refusal.other, 0x3800, 0x3fff));
+        else
+            CHECK(is_range(refusal.other, first->other.start, first->other.end));
         CHECK(refusal.cause == 0 || refusal.range.start == first->request.start);
         CHECK(dvs_range_visit(space, see_range, &now) == DVS_OK);
         CHECK(dvs_range_visit(before, see_range, &then) == DVS_OK);

@@ -119,7 +119,7 @@ static const struct row at_ends[] = {
 
 /* Windows that are not ranges, allocated ranges, and requests with two errors or two causes. */
 /* divsharun.h: "The first one that applies is written, in this order: outside the space, outside
- * the window, allocated, an earlier request, no fit."
+ * the window, allocated or an earlier request, no fit."
  * divsharun.h: "DVS_INVALID_STATE_TRANSITION is also returned if exactly the requested range is
  * allocated, starts in the window and ends past it." */
 static const struct row refused[] = {

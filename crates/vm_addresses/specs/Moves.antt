@@ -1,5 +1,5 @@
 -- The move of a held range to the place of a request.
-use Rattle.std.specs.Prelude.{◌≡◌, ◌≢◌, ℕ, ◌<◌, ◌≤◌, true, false, length, None, Result, Ok, Err, MatchResult}
+use Rattle.std.specs.Prelude.{◌≡◌, ◌≢◌, ℕ, ◌<◌, ◌≤◌, true, false, length, Result, Ok, Err, MatchResult}
 use Rattle.std.specs.List.{Contains}
 use Rattle.vm_ranges.specs.Cases.{Unless}
 use Rattle.vm_ranges.specs.Range.{Range, MAX, IsIn, address_count}

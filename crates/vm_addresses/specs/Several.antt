@@ -56,6 +56,13 @@ abbrev pub AllocatesAll : AddressState → List Request → Result (List Range) 
 AllocatesAll old requests answer new =
     MatchResult answer (λ ranges. AllocatesEach old requests ranges new) (λ error. FailsAll old requests error new)
 
+-- The fact is true for the state after the requests got their ranges.
+pub record IsTrueAfter (old : AddressState) (requests : List Request) (fact : AddressState → Type 0) : Type 0 where
+  pub ranges : List Range
+  pub state : AddressState
+  pub each : AllocatesEach old requests ranges state
+  pub is_true : fact state
+
 -- The requests for exactly these ranges.
 abbrev pub exact_requests : List Range → List Request
 exact_requests [] = []

@@ -177,7 +177,7 @@ no_part : (s : Search) → IsSearch s → s.high < s.low → (b : Block) → Has
 unfolding HasNoFit HasNoFitIn
 no_part s v o b = λ t f. omega (arith, v.some, o, f.2, f.3)
 
-no_parts : (s : Search) → IsSearch s → s.high < s.low → (bs : List Block) → HasNoPlace s bs
+pub no_parts : (s : Search) → IsSearch s → s.high < s.low → (bs : List Block) → HasNoPlace s bs
 no_parts s v o [] = All-nil (HasNoFitIn (window_of s) s.size s.alignment)
 no_parts s v o (b ∷ bs) = All-cons (HasNoFitIn (window_of s) s.size s.alignment) b bs (no_part s v o b) (no_parts s v o bs)
 

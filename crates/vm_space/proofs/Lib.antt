@@ -27,3 +27,4 @@ pub mod BlockCursors
 pub mod Plans
 pub mod Heights
 pub mod Spares
+pub mod Looks

@@ -34,7 +34,7 @@ is_fit Last n a t b h = h.0
 -- ---- A leaf
 module _ (seek : Search) (bs : List Block) (found : Fit) where
   -- The fit that was found is in a block of the leaf.
-  fit_of : (end : End) → IsClosestFitIn end seek bs found →
+  pub fit_of : (end : End) → IsClosestFitIn end seek bs found →
       (found.index < length bs) × IsFit seek.size seek.alignment (cut_to (window_of seek) (nth bs found.index)) found.start
   fit_of First h = (h.within, is_fit First seek.size seek.alignment found.start (cut_to (window_of seek) (nth bs found.index)) h.lowest)
   fit_of Last h = (h.within, is_fit Last seek.size seek.alignment found.start (cut_to (window_of seek) (nth bs found.index)) h.highest)

@@ -1,5 +1,5 @@
 -- The allocation of a range in a gap of a list of blocks, and its errors.
-use Rattle.std.specs.Prelude.{◌≡◌, ℕ, ◌+◌, ◌<◌, ◌⊎◌, List, ◌∷◌, ◌++◌, length, true, false, Result, Ok, Err}
+use Rattle.std.specs.Prelude.{◌≡◌, ℕ, ◌+◌, ◌<◌, ◌⊎◌, List, ◌∷◌, ◌++◌, length, true, false, Option, Some, None, Result, Ok, Err}
 use Rattle.std.specs.List.{All}
 use Rattle.vm_ranges.specs.Cases.{IfElse}
 use Rattle.vm_ranges.specs.Alignment.{IsAlignment}
@@ -56,6 +56,11 @@ pub record IsClosestPlace (end : End) (search : Search) (bs : List Block) (place
 -- The range of a search at a place.
 abbrev pub range_at : Search → ListPlace → Range
 range_at search place = span place.start search.size
+
+-- The range of the place of the search that is closest to the end, or None if there is no place.
+abbrev pub FindsFit : End → Search → List Block → Option Range → Type 0
+FindsFit end search bs None = HasNoPlace search bs
+FindsFit end search bs (Some r) = (place : ListPlace) × IsClosestPlace end search bs place × (r ≡ range_at search place)
 
 -- The range does not fill the gap of the place.
 abbrev pub SplitsAt : Search → ListPlace → Type 0

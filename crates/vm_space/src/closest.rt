@@ -2,17 +2,18 @@
 ghost use Rattle.std.specs.Prelude.{◌≡◌, ◌≢◌, ◌+◌, ◌-◌, ◌≤◌, min, List, Err, OnErr};
 ghost use Rattle.vm_ranges.specs.Range.{MAX};
 ghost use Rattle.vm_tree.specs.Sought.{nodes};
-ghost use Rattle.vm_space.specs.Allocation.{window_of, IsSearch, AllocatesFit};
+ghost use Rattle.vm_space.specs.Allocation.{window_of, IsSearch, AllocatesFit, FindsFit};
 ghost use Rattle.vm_space.specs.NodeCounts.{IsSearchCount};
 ghost use Rattle.vm_space.specs.Shape.{blocks};
 ghost use Rattle.vm_space.specs.Spaces.{AreSpace};
 ghost use Rattle.vm_space.specs.Closest.{IsValid, seeking};
 ghost use Rattle.vm_space.specs.Fitting.{RefusesClosest, EditsClosest, SplitsClosest, NeedsClosest, IsFitTree, answer_of};
 
-use crate::fit::{Fitting, fit_in_leaf, split_fit};
+use crate::fit::{Fitting, fit_in, fit_in_leaf, place_in, split_fit};
 use crate::search::{Refusal, Search, Taken};
 use std::alloc::{AllocError, Global};
 use vm_leaf::Leaf;
+use vm_ranges::RangeInclusive;
 use vm_tree::{Change, End, Entry, Seek, Tree};
 
 /// The allocation of the place of a search that is closest to an end.
@@ -71,6 +72,12 @@ impl Seek<Leaf> for Closest {
             && self.search.alignment.trailing_zeros() < entry.alignments
     }
 
+    #[tactic(auto, using(crate::proofs::Seekings::is_search, crate::proofs::Looks::has_place))]
+    #[inline(always)]
+    fn has(&self, leaf: &Leaf) -> bool {
+        fit_in(leaf, self.end, &self.search).is_some()
+    }
+
     #[tactic(auto, using(crate::proofs::Seekings::is_search))]
     #[inline(always)]
     fn seek(&mut self, leaf: &mut Leaf, was: Entry) -> Option<Change> {
@@ -95,6 +102,27 @@ impl Seek<Leaf> for Closest {
         self.fitting = Fitting::Taken(taken);
         Ok(upper)
     }
+}
+
+/// Returns the range of the place of a search that is closest to an end, in the tree of a space, or `None` if there is
+/// no place.
+#[tactic(auto, using(crate::proofs::Seekings::is_valid))]
+pub(crate) fn look_in_space(tree: &Tree<Leaf>, end: End, search: &Search) -> Option<RangeInclusive>
+    requires space { AreSpace tree.now.leaves }
+    requires search { IsSearch search.now }
+    ensures { FindsFit end search.now (blocks tree.now) result }
+{
+    if search.high < search.low {
+        return None;
+    }
+    let closest = Closest {
+        end,
+        search: *search,
+        fitting: Fitting::Absent,
+    };
+    let leaf = tree.look(&closest)?;
+    let place = place_in(leaf, end, search)?;
+    Some(place.range)
 }
 
 /// Allocates the place of a search that is closest to an end, in a tree.

@@ -16,7 +16,7 @@ use vm_tree::{End, Entry};
 /// Returns the fit of a search that is closest to an end of a leaf, or `None` if there is none.
 #[inline(always)]
 #[tactic(auto, using(crate::proofs::Searched::no_place))]
-fn fit_in(leaf: &Leaf, end: End, search: &Search) -> Option<Fit>
+pub(crate) fn fit_in(leaf: &Leaf, end: End, search: &Search) -> Option<Fit>
     requires search { IsSearch search.now }
     ensures { MatchOption result (HasNoPlace search.now leaf.now) (IsClosestFitIn end search.now leaf.now) }
 {
@@ -29,7 +29,7 @@ fn fit_in(leaf: &Leaf, end: End, search: &Search) -> Option<Fit>
 /// Returns the place of a search that is closest to an end of a leaf, or `None` if there is none.
 #[inline(always)]
 #[tactic(auto, using(crate::proofs::Searched::places))]
-fn place_in(leaf: &Leaf, end: End, search: &Search) -> Option<Place>
+pub(crate) fn place_in(leaf: &Leaf, end: End, search: &Search) -> Option<Place>
     requires search { IsSearch search.now }
     ensures { MatchOption result (HasNoPlace search.now leaf.now) (IsClosestLeafPlace end search.now leaf.now) }
 {

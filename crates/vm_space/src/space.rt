@@ -20,11 +20,11 @@ ghost use Rattle.vm_space.specs.NodeCounts.{IsSearchCount};
 ghost use Rattle.vm_space.specs.Shape.{blocks, height_of};
 ghost use Rattle.vm_space.specs.Leaves.{IsInLeaf};
 ghost use Rattle.vm_space.specs.Frees.{FreesBlock, Holds};
-ghost use Rattle.vm_space.specs.Allocation.{window_of, IsSearch, IsOutOfMemory, AllocatesExact, AllocatesFit};
+ghost use Rattle.vm_space.specs.Allocation.{window_of, IsSearch, IsOutOfMemory, AllocatesExact, FindsFit, AllocatesFit};
 ghost use Rattle.vm_space.specs.Placing.{IsStartIn};
 
 use crate::build::build_tree;
-use crate::closest::fit_in_space;
+use crate::closest::{fit_in_space, look_in_space};
 use crate::copy::append_starts;
 use crate::exact::Exact;
 use crate::find::block_at;
@@ -225,6 +225,14 @@ impl Space {
             return None;
         }
         free_in_tree(&mut self.tree, key, count)
+    }
+
+    /// Returns the range of the place of a search that is closest to an end, or `None` if there is no place.
+    pub fn look_fit(&self, end: End, search: &Search) -> Option<RangeInclusive>
+        requires search { IsSearch search.now }
+        ensures { FindsFit end search.now (blocks self.now) result }
+    {
+        look_in_space(&self.tree, end, search)
     }
 
     /// Allocates the place of a search that is closest to an end: the lowest or the highest place.

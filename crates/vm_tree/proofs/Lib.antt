@@ -30,3 +30,4 @@ pub mod Passing
 pub mod Starting
 pub mod Soughts
 pub mod Nexts
+pub mod Looks

@@ -1,5 +1,5 @@
 -- The result of a search in a subtree.
-use Rattle.std.specs.Prelude.{◌≡◌, ℕ, suc, ◌+◌, ◌*◌, ◌<◌, ◌≤◌, min, Bool, true, false, List, ◌++◌, length, take, drop, Option, Some, None, Box}
+use Rattle.std.specs.Prelude.{◌≡◌, ℕ, suc, ◌+◌, ◌*◌, ◌<◌, ◌≤◌, min, Bool, true, false, List, ◌++◌, ◌∷◌, length, take, drop, Option, Some, None, Box}
 use Rattle.std.specs.declared.alloc.Global.{Global}
 use Rattle.vm_tree.specs.Entry.{Entry}
 use Rattle.vm_tree.specs.Subtree.{Subtree, over, leaves_of, front, nth_tree, AllOf, leaves_entry}
@@ -85,6 +85,31 @@ module _ {X : Type 0} (q : Seeking X) (c d : ℕ) where
   pub record IsUnsoughtAt (i : ℕ) (ss ts : List (Subtree X)) : Type 0 where
     pub same : ts ≡ ss
     pub vain : IsVain q (nth_tree ss i).height (nodes (nth_tree ss i)) c d (nth_tree ss i).leaves
+
+  -- The leaf has a place, and is the one of the subtree that is closest to the end.
+  pub record IsPlaceLeaf (s : Subtree X) (leaf : X) : Type 0 where
+    pub before : List X
+    pub after : List X
+    pub home : StandsAt (AtNearest s) s.leaves before leaf after
+    pub has : q.lacks leaf → ⊥
+
+  -- What a search that changes nothing finds in a subtree, if it counts nodes.
+  abbrev pub Looked : Subtree X → Option X → Type 0
+  Looked s None = IsVain q s.height (nodes s) c d s.leaves
+  Looked s (Some leaf) = IsPlaceLeaf s leaf
+
+-- The leaf has a place, and is the one of these leaves that is closest to the end.
+pub record IsClosestLeaf {X : Type 0} (q : Seeking X) (xs : List X) (leaf : X) : Type 0 where
+  pub before : List X
+  pub after : List X
+  pub was : xs ≡ before ++ leaf ∷ after
+  pub none : AllOf q.lacks (beyond q.end before after)
+  pub has : q.lacks leaf → ⊥
+
+-- What a search that changes nothing finds in leaves.
+abbrev pub FindsLeaf : {X : Type 0} → Seeking X → List X → Option X → Type 0
+FindsLeaf q xs None = AllOf q.lacks xs
+FindsLeaf q xs (Some leaf) = IsClosestLeaf q xs leaf
 
 module _ {X : Type 0} (entry : X → Entry) (enough : X → Type 0) (q : Seeking X) (c d : ℕ) (refuses : X → Type 0) (edits : X → List X → Type 0) where
   -- A subtree after a search.

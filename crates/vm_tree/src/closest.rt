@@ -15,7 +15,7 @@ use std::mem;
 
 /// Returns true if a child of a node may have a place. Otherwise the node has none.
 #[inline(always)]
-fn may_enter<L: Leaf, S: Seek<L>>(node: &Node<L>, seek: &S) -> bool
+pub(crate) fn may_enter<L: Leaf, S: Seek<L>>(node: &Node<L>, seek: &S) -> bool
     requires some { 0 < kids node.now }
     requires runs { (S.seeking seek.now).runs node.now.leaves }
     ensures { MatchBool result ((S.seeking seek.now).fits (entry_of L.entry node.now) ≡ true) (AllOf (S.seeking seek.now).lacks node.now.leaves) }

@@ -33,6 +33,7 @@ mod grow;
 mod kids;
 mod leaf;
 mod leaf_iter;
+mod look;
 mod lower;
 mod mend;
 mod node;

@@ -1,5 +1,5 @@
 //! The search for a leaf.
-ghost use Rattle.std.specs.Prelude.{◌≡◌, ◌∷◌, [], List, IfOk, OnErr, IfSome, IfNone, None, Some};
+ghost use Rattle.std.specs.Prelude.{◌≡◌, ◌∷◌, [], List, IfOk, OnErr, IfSome, IfNone, None, Some, MatchBool};
 ghost use Rattle.vm_tree.specs.Seeking.{Seeking, IsSeeking};
 
 use crate::end::End;
@@ -35,6 +35,10 @@ pub trait Seek<L: Leaf> {
     /// Returns true if the summary of leaves does not exclude a place.
     fn fits(&self, entry: &Entry) -> bool
         ensures { result ≡ (seeking self.now).fits entry.now };
+
+    /// Returns true if a leaf has a place.
+    fn has(&self, leaf: &L) -> bool
+        ensures { MatchBool result ((seeking self.now).lacks leaf.now → ⊥) ((seeking self.now).lacks leaf.now) };
 
     /// Changes the leaf, beside which `was` is stored, if it has a place. Returns `None` if it has none.
     /// If the leaf is a root, then `was` is not its entry.

@@ -323,8 +323,7 @@ impl AddressAllocator {
     /// Returns the range that [`allocate_constraint`](Self::allocate_constraint) would allocate now, and changes
     /// nothing. So a configuration can be checked before it is begun.
     ///
-    /// For `ExactMatch` the time is logarithmic. For the other policies it is linear in the number of ranges
-    /// and gaps of the window up to the result.
+    /// It searches the tree as `allocate_constraint` does, and does not allocate memory.
     ///
     /// # Errors
     ///
@@ -538,7 +537,9 @@ impl AddressAllocator {
             };
             allocate().map_err(|failure: proved::ListError| {
                 list_error(failure, |index| {
-                    self.0.conflict(requests.get(index)?.0)
+                    let earlier = converted(requests.get(..index)?, |request| request.0).ok()?;
+                    let request = requests.get(index)?.0;
+                    self.0.conflict_after(Global, &earlier, request).ok()?
                 })
             })
         }

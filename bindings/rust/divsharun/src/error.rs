@@ -227,8 +227,8 @@ pub struct ListError<E = Error> {
     /// The error.
     pub error: E,
     /// The reason why the item is not allocated, if there is one: why `with_held` or `with_free` refused the
-    /// range, or the [`conflict`](crate::AddressAllocator::conflict) of the request of `allocate_all`. If
-    /// only an earlier request of `allocate_all` is in the way, it is `None`.
+    /// range, or the [`conflict`](crate::AddressAllocator::conflict) of the request of `allocate_all` after the
+    /// requests before it. So an allocated range can be that of an earlier request, which is free again.
     pub conflict: Option<Conflict>,
 }
 

@@ -86,8 +86,8 @@
 //! least 2 in the root. Allocating or moving a range allocates nothing if its leaf has room. Otherwise it
 //! allocates a leaf, a node for each full node right above the leaf, one for a new root if all are full, and
 //! a list of these nodes. A move to a part of the gap that it leaves always allocates a leaf, and a list of
-//! nodes for the highest tree of these ranges. `allocate_all` also allocates three lists. A copy allocates
-//! all leaves and nodes, `with_held` also a list, and `with_free` two. Reserving or moving a device, freeing, skipping or copying ids, and keeping, moving or
+//! nodes for the highest tree of these ranges. `allocate_all` also allocates three lists, and two more if a
+//! request fails. A copy allocates all leaves and nodes, `with_held` also a list, and `with_free` two. Reserving or moving a device, freeing, skipping or copying ids, and keeping, moving or
 //! copying the values of a map can allocate.
 //!
 //! # Threads

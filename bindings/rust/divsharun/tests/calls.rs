@@ -482,11 +482,11 @@ fn errors_of_calls_with_lists() {
         ),
         (64, ResourceNotAvailable, outside),
         (max - 7, ResourceNotAvailable, outside),
-        // Only the first request is in the way.
+        // The first request is in the way.
         (
             0,
             InvalidStateTransition(range(0, 7), NodeState::Allocated),
-            None,
+            Some(Conflict::Allocated(range(0, 7))),
         ),
     ] {
         let requests = [exact(0), exact(start), exact(8)];

@@ -38,7 +38,15 @@ const OF_SPACES: [Calls<AddressAllocator>; 20] = [
     |space, at| AddressAllocator::over(space.space()).free_len() > at,
     |space, at| space.conflict(exact(at)).is_some() && space.conflict(exact(at + 1)).is_none(),
     |space, at| {
-        space.peek(exact(at + 1)) == Ok(one(at + 1)) && space.longest_gap_in(from(at)).is_some()
+        let near = Constraint::new(1, 1, FirstMatch).unwrap().within(from(at));
+        let [first, last, none] = [(1, FirstMatch), (1, LastMatch), (2, LastMatch)]
+            .map(|(size, policy)| space.peek(Constraint::new(size, 1, policy).unwrap()));
+        first == Ok(one(1))
+            && last == Ok(one(space.end()))
+            && none.is_err()
+            && space.peek(near.unwrap()) == Ok(one(at + 1))
+            && space.peek(exact(at + 1)) == Ok(one(at + 1))
+            && space.longest_gap_in(from(at)).is_some()
     },
     |space, _| has_ends(space.held_ranges(), is_counted),
     |space, _| has_ends(space.gaps(), is_counted),

@@ -45,14 +45,15 @@ type EndedCall = fn(&mut AddressAllocator);
 // src/lib.rs: "Allocating or moving a range allocates nothing if its leaf has room. Otherwise it
 // allocates a leaf, a node for each full node right above the leaf, one for a new root if all are full,
 // and a list of these nodes. A move to a part of the gap that it leaves always allocates a leaf, and a
-// list of nodes for the highest tree of these ranges. `allocate_all` also allocates three lists. A copy
-// allocates all leaves and nodes, `with_held` also a list, and `with_free` two."
+// list of nodes for the highest tree of these ranges. `allocate_all` also allocates three lists, and two
+// more if a request fails. A copy allocates all leaves and nodes, `with_held` also a list, and
+// `with_free` two."
 
 /// Calls that return an error, each with the number of its allocations on [`full_leaf`]: one for each
 /// leaf and inner node of a new tree or of a copy, and three for a split of the full leaf. A call with
 /// ranges copies the list, and one with requests makes three lists. Holes between free ranges are a list
 /// too.
-const TRIED: [(u64, TriedCall); 43] = [
+const TRIED: [(u64, TriedCall); 42] = [
     (1, |_| AddressAllocator::try_new(0, 64).map(drop)),
     (1, |_| AddressAllocator::try_over(both()[0]).map(drop)),
     (1, |space| space.try_clone().map(drop)),
@@ -82,9 +83,6 @@ const TRIED: [(u64, TriedCall); 43] = [
         of_list(space.try_allocate_all(&three_requests()))
     }),
     (0, |space| of_list(space.try_allocate_all(&[]))),
-    (3 + SPLIT, |space| {
-        refused(space.try_allocate_all(&[request(4, FirstMatch), request(64, FirstMatch)]))
-    }),
     (SPLIT, |space| {
         space.try_allocate(4, 1, FirstMatch).map(drop)
     }),
@@ -272,6 +270,7 @@ fn main() {
     }
     count_requests();
     refuse_each_request();
+    conflicts_without_memory();
     full_nodes_are_split();
     objects_stay_the_same();
     no_request_is_made();
@@ -402,6 +401,20 @@ fn refuse_each_request() {
             assert_eq!((&space, blocks()), (&unchanged, before), "row {row}");
             assert_eq!(call(&mut space), Ok(()), "row {row} again");
         }
+    }
+}
+
+/// Checks a list whose last request fails. It has no conflict if memory for the conflict runs out.
+fn conflicts_without_memory() {
+    let requests = [request(4, ExactMatch(28)); 2];
+    for number in 0..=3 + SPLIT + 2 {
+        let mut space = full_leaf();
+        let (answer, made) = refusing(number, || space.try_allocate_all(&requests));
+        let failure = answer.expect_err("a conflict");
+        let ran_out = failure.error == TryError::OutOfMemory;
+        assert_eq!(ran_out, (1..=3 + SPLIT).contains(&number), "{number}");
+        assert_eq!(failure.conflict.is_some(), number == 0, "{number}");
+        assert!(space == full_leaf() && (number > 0 || made == 3 + SPLIT + 2));
     }
 }
 
@@ -562,6 +575,8 @@ fn no_request_is_made() {
         let exact = request(8, ExactMatch(9));
         assert_eq!(space.conflict(exact), Some(Conflict::Allocated(held[0])));
         assert_eq!(devices.conflict(exact), None);
+        let last = space.peek(request(8, LastMatch));
+        assert_eq!(last.map(|range| range.end()), Ok(63));
         let error = Error::Overlap(held[0], held[1]);
         let failure = ListError {
             index: None,

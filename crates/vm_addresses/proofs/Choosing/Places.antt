@@ -7,7 +7,7 @@ use Rattle.vm_leaf.specs.declared.block.Block.{Block}
 use Rattle.vm_ranges.specs.Address.{AddressState, IsPlace}
 use Rattle.vm_leaf.specs.Blocks.{Tiles}
 use Rattle.vm_leaf.specs.SpaceBlocks.{IsBlocksOf}
-use Rattle.vm_leaf.specs.Fit.{IsFit, HasNoFit, IsLowestFit, IsHighestFit}
+use Rattle.vm_leaf.specs.Fit.{IsFit, HasNoFit, IsHighestFit}
 use Rattle.vm_ranges.proofs.PlainWords.{IsHeldAddress, all_miss, none_holds}
 use Rattle.vm_ranges.specs.declared.state.NodeState.{NodeState}
 use Rattle.vm_ranges.specs.declared.state.NodeState.TheVariants.{Free, Allocated}

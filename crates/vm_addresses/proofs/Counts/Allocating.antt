@@ -1,5 +1,5 @@
 -- The number of nodes that `allocate` enters, for valid and for invalid requests.
-use Rattle.std.proofs.Common.{◌≡◌, ℕ, refl, arith, Result, Err}
+use Rattle.std.proofs.Common.{ℕ, refl, arith, Result, Err}
 use Rattle.vm_ranges.specs.Range.{Range}
 use Rattle.vm_ranges.specs.Address.{AddressState}
 use Rattle.vm_ranges.specs.Request.{Request, IsRequest}

@@ -1,67 +1,33 @@
 -- The range that FirstMatch or LastMatch chooses, and the result of its request.
-use Rattle.std.proofs.Common.{◌≡◌, ℕ, ◌+◌, ◌-◌, ◌≤◌, arith, ⊎_elim, refl, sym, ap, subst, length, Option, Some, None, Result, Err}
-use Rattle.vm_ranges.specs.Range.{Range, MAX, IsIn}
+use Rattle.std.proofs.Common.{◌≡◌, ℕ, ◌+◌, ◌-◌, ◌≤◌, arith, ⊎_elim, sym, ap, ◌∙◌, subst, length, Option, Some, None, Result, Err}
+use Rattle.vm_ranges.specs.Range.{Range, MAX, IsIn, span}
 use Rattle.vm_ranges.specs.Request.{Request, IsRequest}
-use Rattle.vm_ranges.specs.Address.{AddressState, IsClear, IsPlace, IsLowestPlace, IsHighestPlace}
-use Rattle.vm_ranges.specs.Answer.{AllocatesAt}
-use Rattle.vm_ranges.specs.Windows.{common, within, window_in}
+use Rattle.vm_ranges.specs.Address.{AddressState, IsClear, IsPlace}
+use Rattle.vm_ranges.specs.Answer.{AllocatesAt, IsChosen}
 use Rattle.vm_ranges.specs.declared.error.Error.{Error}
 use Rattle.vm_ranges.specs.declared.error.Error.TheVariants.{ResourceNotAvailable}
-use Rattle.vm_ranges.specs.declared.constraint.AllocPolicy.TheVariants.{FirstMatch, LastMatch}
-use Rattle.vm_ranges.proofs.RangeCalls.{same_range}
-use Rattle.vm_leaf.specs.SpaceBlocks.{IsBlocksOf}
 use Rattle.vm_space.specs.Shape.{Shape, blocks}
 use Rattle.vm_addresses.specs.Allocator.{state_of, space_of, IsSpaceTree}
 use Rattle.vm_addresses.specs.Peeks.{Peeks, state_after}
-use Rattle.vm_addresses.specs.Checks.Peeking.{FindsFirst, FindsLast, FindsChosen, Settles}
-use Rattle.vm_addresses.proofs.Choosing.Searched.{IsNotExact, none_grants, chosen_grants, over_grants, lowest_chosen, highest_chosen}
-use Rattle.vm_addresses.proofs.Choosing.WindowPlaces.{lowest_place_in, highest_place_in, no_place_in}
-use Rattle.vm_addresses.proofs.Peeking.Searching.{first_none, first_cut, last_none, last_cut}
-use Rattle.vm_addresses.proofs.Placing.TakenRanges.{as_blocks}
+use Rattle.vm_addresses.specs.Checks.Peeking.{FindsChosen, Settles}
+use Rattle.vm_addresses.specs.Tree.Allocation.{IsSearchOf, policy_of}
+use Rattle.vm_space.specs.Allocation.{FindsFit}
+use Rattle.vm_space.specs.declared.search.Search.{Search}
+use Rattle.vm_tree.specs.declared.end.End.{End}
+use Rattle.vm_addresses.proofs.Placing.Places.{no_place, place_chosen}
+use Rattle.vm_addresses.proofs.Choosing.Searched.{IsNotExact, none_grants, chosen_grants, over_grants}
 use Rattle.vm_addresses.proofs.Results.Once.{chosen_place}
 use Rattle.vm_addresses.proofs.Results.Requests.{request_allocates}
 
--- A window that is the whole space does not limit a request.
-seen : (w : Option Range) (state : AddressState) → within (Some (window_in w state.space)) state ≡ within w state
-seen None state = ap (λ (r : Range). record { space = r; held = state.held })
-    (same_range (common state.space state.space) state.space (omega arith) (omega arith))
-seen (Some w) state = refl
-
-module _ (s : Shape) (tree : IsSpaceTree s) (request : Request) (valid : IsRequest request) where
-  abbrev state : AddressState
-  state = state_of s
-
-  abbrev w : Range
-  w = window_in request.window state.space
-
-  is_of : IsBlocksOf state (blocks s)
-  is_of = as_blocks (space_of (blocks s)) (blocks s) tree.tiling.tiles
-
-  pub first_chosen : (answer : Option Range) → request.policy ≡ FirstMatch → FindsFirst w request.size request.align (blocks s) answer →
-      FindsChosen state request answer
-  first_chosen None policy h = λ t p.
-      no_place_in w request.size request.align state (blocks s) is_of valid.some (first_none w request.size request.align (blocks s) h) t
-      (subst (λ (v : AddressState). IsPlace request.size request.align v t) (sym (seen request.window state)) p)
-  first_chosen (Some q) policy h =
-      let k = first_cut w request.size request.align (blocks s) q h in
-      let l = lowest_place_in w request.size request.align state (blocks s) is_of valid.some k.lower k.upper k.block q.start k.cut k.none k.found.1 in (
-        k.found.0,
-        lowest_chosen request q.start state policy
-            (subst (λ (v : AddressState). IsLowestPlace request.size request.align v q.start) (seen request.window state) l),
-      )
-
-  pub last_chosen : (answer : Option Range) → request.policy ≡ LastMatch → FindsLast w request.size request.align (blocks s) answer →
-      FindsChosen state request answer
-  last_chosen None policy h = λ t p.
-      no_place_in w request.size request.align state (blocks s) is_of valid.some (last_none w request.size request.align (blocks s) h) t
-      (subst (λ (v : AddressState). IsPlace request.size request.align v t) (sym (seen request.window state)) p)
-  last_chosen (Some q) policy h =
-      let k = last_cut w request.size request.align (blocks s) q h in
-      let l = highest_place_in w request.size request.align state (blocks s) is_of valid.some k.lower k.upper k.block q.start k.cut k.none k.found.1 in (
-        k.found.0,
-        highest_chosen request q.start state policy
-            (subst (λ (v : AddressState). IsHighestPlace request.size request.align v q.start) (seen request.window state) l),
-      )
+-- The range of the place of a search is the chosen one.
+pub found_chosen : (s : Shape) (tree : IsSpaceTree s) (request : Request) (valid : IsRequest request) (seek : Search)
+    (is : IsSearchOf request (space_of (blocks s)) seek) (end : End) → request.policy ≡ policy_of end → (answer : Option Range) →
+    FindsFit end seek (blocks s) answer → FindsChosen (state_of s) request answer
+found_chosen s tree request valid seek is end policy None h = no_place (space_of (blocks s)) (blocks s) tree.tiling.tiles request seek valid is h
+found_chosen s tree request valid seek is end policy (Some q) h =
+    let k = (place_chosen (space_of (blocks s)) (blocks s) tree.tiling.tiles request seek valid is end policy h.0 h.1).1 in
+    let start : q.start ≡ h.0.start = ap (λ (r : Range). r.start) h.2 in
+    (h.2 ∙ ap (span h.0.start) is.size ∙ ap (λ (t : ℕ). span t request.size) (sym start), subst (IsChosen request (state_of s)) (sym start) k)
 
 -- The addresses of the chosen range are clear.
 pub chosen_clear : (state : AddressState) (request : Request) (q : Range) (x : ℕ) → IsRequest request → FindsChosen state request (Some q) →
@@ -89,7 +55,5 @@ place_peeked state request q answer valid policy upto h s =
           (subst (λ (v : Range). AllocatesAt (length state.held) state v answer (state_after answer state)) h.0 r.1))
           s.1),
     )
-
-pub ruleset choosing = (first_chosen, last_chosen)
 
 pub ruleset settled = (chosen_clear, no_place_peeked, place_peeked)

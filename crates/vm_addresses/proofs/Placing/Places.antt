@@ -7,15 +7,13 @@ use Rattle.vm_ranges.specs.Request.{Request, IsRequest}
 use Rattle.vm_ranges.proofs.RangeCalls.{same_range}
 use Rattle.vm_ranges.specs.declared.error.Error.{Error}
 use Rattle.vm_ranges.specs.declared.error.Error.TheVariants.{Overflow, OutOfMemory}
-use Rattle.vm_ranges.specs.declared.constraint.AllocPolicy.{AllocPolicy}
-use Rattle.vm_ranges.specs.declared.constraint.AllocPolicy.TheVariants.{FirstMatch, LastMatch}
 use Rattle.vm_leaf.specs.declared.block.Block.{Block}
 use Rattle.vm_leaf.specs.Block.{free_block}
 use Rattle.vm_leaf.specs.Blocks.{IsTakenFrom}
 use Rattle.vm_leaf.specs.Fit.{IsFit, IsLowestFit, IsHighestFit}
 use Rattle.vm_leaf.specs.Windows.{cut_to}
 use Rattle.vm_ranges.specs.Windows.{common, within, window_in}
-use Rattle.vm_ranges.specs.Address.{AddressState, SplitsGap, holding}
+use Rattle.vm_ranges.specs.Address.{AddressState, SplitsGap, holding, IsPlace}
 use Rattle.vm_ranges.specs.Answer.{SPLIT_LIMIT_MIN_HELD, IsChosen, AllocatesAt, Grants}
 use Rattle.vm_leaf.specs.SpaceBlocks.{held_of, blocks_state, TilesSpace}
 use Rattle.vm_addresses.proofs.Blocks.BlockOrder.{NeedsSplit}
@@ -30,7 +28,7 @@ use Rattle.vm_addresses.proofs.Counts.LeftClear.{needs_split}
 use Rattle.vm_addresses.proofs.Placing.TakenRanges.{blocks_split, leaves_clear, as_blocks}
 use Rattle.vm_addresses.proofs.Choosing.WindowPlaces.{lowest_place_in, highest_place_in, no_place_in}
 use Rattle.vm_addresses.proofs.Choosing.Searched.{IsNotExact, none_grants, chosen_grants, over_grants, lowest_chosen, highest_chosen}
-use Rattle.vm_addresses.specs.Tree.Allocation.{with_error, taken_range, IsSearchOf}
+use Rattle.vm_addresses.specs.Tree.Allocation.{with_error, taken_range, IsSearchOf, policy_of}
 
 -- ---- The limit of splits
 few_if : (can_split : Bool) (k : ℕ) → IsTestOf can_split (k < SPLIT_LIMIT_MIN_HELD) → can_split ≡ true → k < SPLIT_LIMIT_MIN_HELD
@@ -124,11 +122,6 @@ seen_by None sp held search h = ap (λ (v : Range). record { space = common v sp
 seen_by (Some w) sp held search h = ap (λ (v : Range). record { space = common v sp; held = held }) h
 
 -- ---- The result of a search
--- The policy of a search from the end.
-abbrev pub policy_of : End → AllocPolicy
-policy_of First = FirstMatch
-policy_of Last = LastMatch
-
 module _ (sp : Range) (old : List Block) (tiles : TilesSpace sp old) (request : Request) (search : Search) (valid : IsRequest request)
     (is : IsSearchOf request sp search) where
   some : 0 < search.size
@@ -137,13 +130,17 @@ module _ (sp : Range) (old : List Block) (tiles : TilesSpace sp old) (request : 
   seen : within (Some (window_of search)) (blocks_state sp old) ≡ within request.window (blocks_state sp old)
   seen = seen_by request.window sp (held_of old) search is.window
 
+  pub no_place : HasNoPlace search old → (s : ℕ) → ¬ IsPlace request.size request.align (within request.window (blocks_state sp old)) s
+  no_place none =
+      let p = no_place_in (window_of search) search.size search.alignment (blocks_state sp old) old (as_blocks sp old tiles) some none in
+      rw (← seen, ← is.size, ← is.align) p
+
   none_granted : (counted : ℕ) (r : Range) (new : List Block) (answer : Result Taken Refusal) → IsNotExact request.policy → OnErr answer (new ≡ old) →
       HasNoPlace search old → answer ≡ Err NoPlace →
       Grants counted (blocks_state sp old) request (taken_range (with_error r answer)) (blocks_state sp new)
   none_granted counted r new answer policy u none e =
       let u2 : new ≡ old = subst (λ (v : Result Taken Refusal). OnErr v (new ≡ old)) e u in
-      let p = no_place_in (window_of search) search.size search.alignment (blocks_state sp old) old (as_blocks sp old tiles) some none in
-      rw (e, u2) (none_grants request (blocks_state sp old) policy _ (rw (← seen, ← is.size, ← is.align) p))
+      rw (e, u2) (none_grants request (blocks_state sp old) policy _ (no_place none))
 
   fit_in_gap : (place : ListPlace) → IsFit search.size search.alignment (cut_to (window_of search) (free_block place.key)) place.start →
       (place.key.start ≤ place.start) × (place.start + search.size ≤ place.key.end + 1)

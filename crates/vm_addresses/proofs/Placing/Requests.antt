@@ -1,43 +1,5 @@
 -- Derives the result of a request from that of its search.
-use Rattle.std.proofs.Common.{
-  ◌≡◌,
-  ◌≢◌,
-  ℕ,
-  ◌+◌,
-  ◌-◌,
-  ◌*◌,
-  ◌<◌,
-  ◌≤◌,
-  true,
-  false,
-  Bool,
-  List,
-  [],
-  ◌∷◌,
-  ◌++◌,
-  length,
-  refl,
-  sym,
-  ap,
-  ◌∙◌,
-  subst,
-  arith,
-  inl,
-  inr,
-  ⊎_elim,
-  Result,
-  Ok,
-  Err,
-  OnErr,
-  IfErr,
-  IfOk,
-  IsOk,
-  Option,
-  Some,
-  None,
-  ltb,
-  leb,
-}
+use Rattle.std.proofs.Common.{◌≡◌, ◌≢◌, ℕ, ◌+◌, ◌-◌, ◌*◌, ◌<◌, ◌≤◌, false, Bool, List, [], ◌∷◌, ◌++◌, length, refl, sym, ap, ◌∙◌, subst, arith, inl, inr, ⊎_elim, Result, Ok, Err, OnErr, IfErr, IfOk, IsOk, Option, Some, None}
 use Rattle.std.specs.Prelude.{min}
 use Rattle.std.specs.List.{list_any}
 use Rattle.std.proofs.lemmas.Bool.{cases_lt}
@@ -74,7 +36,8 @@ use Rattle.vm_addresses.specs.Tree.Allocation.{with_error, taken_range, IsSearch
 use Rattle.vm_leaf.specs.SpaceBlocks.{range_if_held, held_of, blocks_state, TilesSpace}
 use Rattle.vm_leaf.proofs.Spaces.OneList.{same_block}
 use Rattle.vm_addresses.proofs.Counts.GapSearches.{searches, exact_searches}
-use Rattle.vm_addresses.proofs.Placing.Places.{policy_of, fit_grants, place_chosen}
+use Rattle.vm_addresses.proofs.Placing.Places.{fit_grants, place_chosen}
+use Rattle.vm_addresses.specs.Tree.Allocation.{policy_of}
 use Rattle.vm_addresses.proofs.Placing.ExactPlaces.{exact_grants}
 use Rattle.vm_addresses.proofs.Results.Requests.{request_in, with_policy}
 use Rattle.vm_addresses.proofs.Trees.Ends.{ends}

@@ -9,6 +9,10 @@ use Rattle.vm_ranges.specs.declared.state.NodeState.TheVariants.{Allocated}
 use Rattle.vm_leaf.specs.declared.block.Block.{Block}
 use Rattle.vm_space.specs.Allocation.{ListPlace, window_of, IsPlaceIn, IsTakenAt}
 use Rattle.vm_space.specs.Shape.{Shape, blocks, height_of}
+use Rattle.vm_tree.specs.declared.end.End.{End}
+use Rattle.vm_tree.specs.declared.end.End.TheVariants.{First, Last}
+use Rattle.vm_ranges.specs.declared.constraint.AllocPolicy.{AllocPolicy}
+use Rattle.vm_ranges.specs.declared.constraint.AllocPolicy.TheVariants.{FirstMatch, LastMatch}
 use Rattle.vm_space.specs.declared.search.Search.{Search}
 use Rattle.vm_space.specs.declared.search.Taken.{Taken}
 use Rattle.vm_space.specs.declared.search.Refusal.{Refusal}
@@ -42,6 +46,11 @@ pub record IsSearchOf (request : Request) (space : Range) (search : Search) : Ty
   pub size : search.size ≡ request.size
   pub align : search.alignment ≡ request.align
   pub window : window_of search ≡ window_in request.window space
+
+-- The policy of a search from the end.
+abbrev pub policy_of : End → AllocPolicy
+policy_of First = FirstMatch
+policy_of Last = LastMatch
 
 -- The search took a range out of a gap of the old blocks.
 pub record TakesRange (search : Search) (old new : List Block) (taken : Taken) : Type 0 where

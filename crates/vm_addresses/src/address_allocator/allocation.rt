@@ -167,7 +167,7 @@ fn allocate_exact(
 
 /// Returns the search of a request in a space.
 #[inline(always)]
-fn search_of(constraint: &Constraint, space: &RangeInclusive, can_split: bool) -> Search
+pub(super) fn search_of(constraint: &Constraint, space: &RangeInclusive, can_split: bool) -> Search
     ensures search { IsSearchOf constraint.now space.now result }
     ensures valid { IsSearch result }
     ensures request { IsRequest constraint.now }

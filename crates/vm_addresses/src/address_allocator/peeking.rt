@@ -1,22 +1,18 @@
 //! The result of a request without a change.
-ghost use Rattle.std.specs.Prelude.{◌≡◌, ◌⊎◌, ℕ, false, Some, MatchOption};
-ghost use Rattle.vm_ranges.specs.Cases.{IsTestOf};
-ghost use Rattle.vm_ranges.specs.Range.{Range, IsIn, span};
-ghost use Rattle.vm_ranges.specs.Request.{IsRequest};
+ghost use Rattle.std.specs.Prelude.{◌≡◌, ℕ, false, Some};
+ghost use Rattle.vm_ranges.specs.Range.{IsIn};
 ghost use Rattle.vm_ranges.specs.declared.constraint.AllocPolicy.TheVariants.{FirstMatch, LastMatch, ExactMatch};
 ghost use Rattle.vm_ranges.specs.Address.{IsAddressState, IsClear, SplitsGap};
-ghost use Rattle.vm_leaf.specs.Fit.{HasNoFit};
-ghost use Rattle.vm_leaf.specs.Windows.{cut_to};
-ghost use Rattle.vm_ranges.specs.Windows.{window_in};
-ghost use Rattle.vm_space.specs.Shape.{blocks};
-ghost use Rattle.vm_addresses.specs.Allocator.{IsSpaceTree, state_of};
+ghost use Rattle.vm_addresses.specs.Allocator.{state_of};
 ghost use Rattle.vm_addresses.specs.Peeks.{Peeks};
-ghost use Rattle.vm_addresses.specs.Checks.Peeking.{FindsChosen, FindsFirst, FindsLast, IsLowestIn, IsHighestIn, Settles};
+ghost use Rattle.vm_addresses.specs.Tree.Allocation.{policy_of};
+ghost use Rattle.vm_addresses.specs.Checks.Peeking.{FindsChosen, Settles};
 
 use super::AddressAllocator;
-use super::moving::{ends_in, place_in};
-use vm_leaf::Block;
+use super::allocation::search_of;
+use super::moving::ends_in;
 use vm_ranges::{AllocPolicy, Constraint, Error, NodeState, RangeInclusive, Result, SPLIT_LIMIT};
+use vm_space::End;
 
 impl AddressAllocator {
     /// Returns `true` if a range of free addresses fills its gap.
@@ -40,7 +36,7 @@ impl AddressAllocator {
     /// changes nothing. So a monitor can check a configuration before it begins.
     ///
     /// For `ExactMatch` it descends one path of the tree for each end of the range. For the other policies it
-    /// also goes through the ranges and gaps of the window up to the result. It does not allocate.
+    /// searches as [`allocate_constraint`](Self::allocate_constraint) does. It does not allocate.
     ///
     /// # Errors
     ///
@@ -53,22 +49,22 @@ impl AddressAllocator {
         // Proof: this shows that the tree is valid.
         let _tree = &self.tree;
         match request.policy() {
-            AllocPolicy::FirstMatch => self.settle(request),
-            AllocPolicy::LastMatch => self.settle(request),
+            AllocPolicy::FirstMatch => self.settle(End::First, request),
+            AllocPolicy::LastMatch => self.settle(End::Last, request),
             AllocPolicy::ExactMatch(start) => self.peek_exact(start, request),
         }
     }
 
     /// Returns the result of a request with another policy than `ExactMatch`.
-    #[tactic(auto, using(crate::proofs::Peeking::Chosen::settled))]
-    fn settle(&self, request: Constraint) -> Result<RangeInclusive>
+    #[tactic(auto, using(crate::proofs::Peeking::Chosen::settled, crate::proofs::Placing::Places::not_exact))]
+    fn settle(&self, end: End, request: Constraint) -> Result<RangeInclusive>
         requires state { IsAddressState (state_of self.now) }
-        requires policy { (request.policy ≡ FirstMatch) ⊎ (request.policy ≡ LastMatch) }
+        requires policy { request.policy ≡ policy_of end }
         ensures { Peeks (state_of self.now) request result }
     {
         // Proof: the size is not 0.
         let _size = request.size();
-        let Some(range) = self.chosen_place(request) else {
+        let Some(range) = self.chosen_place(end, request) else {
             return Err(Error::ResourceNotAvailable);
         };
         // Proof: the range ends at `u64::MAX` or below.
@@ -77,16 +73,13 @@ impl AddressAllocator {
     }
 
     /// Returns the range at the place that the policy of a request chooses, or `None` if there is no place.
-    fn chosen_place(&self, request: Constraint) -> Option<RangeInclusive>
-        requires policy { (request.policy ≡ FirstMatch) ⊎ (request.policy ≡ LastMatch) }
+    #[tactic(auto, using(crate::proofs::Peeking::Chosen::found_chosen))]
+    fn chosen_place(&self, end: End, request: Constraint) -> Option<RangeInclusive>
+        requires policy { request.policy ≡ policy_of end }
         ensures { FindsChosen (state_of self.now) request result }
     {
-        match request.policy() {
-            AllocPolicy::FirstMatch => self.lowest_place(request),
-            AllocPolicy::LastMatch => self.highest_place(request),
-            // It is one of these two.
-            AllocPolicy::ExactMatch(_) => unreachable!(),
-        }
+        let search = search_of(&request, &self.space, true);
+        self.tree.look_fit(end, &search)
     }
 
     /// Returns the result of a request with the policy `ExactMatch(start)`.
@@ -119,68 +112,6 @@ impl AddressAllocator {
         self.settle_at(range)
     }
 
-    /// Returns the range of a `FirstMatch` request, or `None` if there is no place for it.
-    #[tactic(auto, using(crate::proofs::Peeking::Chosen::choosing))]
-    fn lowest_place(&self, request: Constraint) -> Option<RangeInclusive>
-        requires policy { request.policy ≡ FirstMatch }
-        ensures { FindsChosen (state_of self.now) request result }
-    {
-        // Proof: the size is not 0.
-        let _size = request.size();
-        let window = window_of(&self.space(), request);
-        self.first_in(&window, request.within(window))
-    }
-
-    /// Returns the range of a `LastMatch` request, or `None` if there is no place for it.
-    #[tactic(auto, using(crate::proofs::Peeking::Chosen::choosing))]
-    fn highest_place(&self, request: Constraint) -> Option<RangeInclusive>
-        requires policy { request.policy ≡ LastMatch }
-        ensures { FindsChosen (state_of self.now) request result }
-    {
-        // Proof: the size is not 0.
-        let _size = request.size();
-        let window = window_of(&self.space(), request);
-        self.last_in(&window, request.within(window))
-    }
-
-    /// Returns the lowest range of a request in its window, or `None` if there is no place.
-    #[tactic(auto, using(crate::proofs::Peeking::Searching::first_steps))]
-    fn first_in(&self, window: &RangeInclusive, request: Constraint) -> Option<RangeInclusive>
-        requires policy { request.policy ≡ FirstMatch }
-        requires window { request.window ≡ Some window.now }
-        ensures found { FindsFirst window.now request.size request.align (blocks self.now) result }
-        ensures space { IsSpaceTree self.now }
-    {
-        // Proof: the size is not 0.
-        let _size = request.size();
-        let mut blocks = self.walk_in(window);
-        while let Some(block) = blocks.next() {
-            if let Some(range) = place_of(&block, request) {
-                return Some(range);
-            }
-        }
-        None
-    }
-
-    /// Returns the highest range of a request in its window, or `None` if there is no place.
-    #[tactic(auto, using(crate::proofs::Peeking::Searching::last_steps))]
-    fn last_in(&self, window: &RangeInclusive, request: Constraint) -> Option<RangeInclusive>
-        requires policy { request.policy ≡ LastMatch }
-        requires window { request.window ≡ Some window.now }
-        ensures found { FindsLast window.now request.size request.align (blocks self.now) result }
-        ensures space { IsSpaceTree self.now }
-    {
-        // Proof: the size is not 0.
-        let _size = request.size();
-        let mut blocks = self.walk_in(window);
-        while let Some(block) = blocks.next_back() {
-            if let Some(range) = place_of(&block, request) {
-                return Some(range);
-            }
-        }
-        None
-    }
-
     /// Returns the range at the place that a request gets, or the error of the range.
     ///
     /// The errors are:
@@ -204,32 +135,5 @@ impl AddressAllocator {
             return Ok(range);
         }
         Err(Error::Overflow)
-    }
-}
-
-/// Returns the range of a request in a block, at the place that its policy chooses there, or `None` if the
-/// block has no place for it.
-#[tactic(auto, using(crate::proofs::Peeking::Blocks::placing))]
-fn place_of(block: &Block, request: Constraint) -> Option<RangeInclusive>
-    ensures lowest { (w : Range) → request.window ≡ Some w → request.policy ≡ FirstMatch
-        → MatchOption result (HasNoFit request.size request.align (cut_to w block.now))
-        (λ q. IsLowestIn w request.size request.align block.now q) }
-    ensures highest { (w : Range) → request.window ≡ Some w → request.policy ≡ LastMatch
-        → MatchOption result (HasNoFit request.size request.align (cut_to w block.now))
-        (λ q. IsHighestIn w request.size request.align block.now q) }
-{
-    match block.state {
-        NodeState::Allocated => None,
-        NodeState::Free => place_in(&block.key, request),
-    }
-}
-
-/// Returns the window of a request, or the space if it has none.
-fn window_of(space: &RangeInclusive, request: Constraint) -> RangeInclusive
-    ensures { result ≡ window_in request.window space.now }
-{
-    match request.window() {
-        None => *space,
-        Some(window) => window,
     }
 }

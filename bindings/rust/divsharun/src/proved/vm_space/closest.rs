@@ -3,7 +3,8 @@
 //! The allocation of the lowest or of the highest place, as a search of a tree.
 
 use crate::proved::vm_leaf::Leaf;
-use crate::proved::vm_space::fit::{fit_in_leaf, split_fit, Fitting};
+use crate::proved::vm_ranges::RangeInclusive;
+use crate::proved::vm_space::fit::{fit_in, fit_in_leaf, place_in, split_fit, Fitting};
 use crate::proved::vm_space::search::{Refusal, Search, Taken};
 use crate::proved::vm_tree::{Change, End, Entry, Seek, Tree};
 use crate::rattle::Box;
@@ -51,6 +52,11 @@ impl Seek<Leaf> for Closest {
     }
 
     #[inline(always)]
+    fn has(&self, leaf: &Leaf) -> bool {
+        fit_in(leaf, self.end, &self.search).is_some()
+    }
+
+    #[inline(always)]
     fn seek(&mut self, leaf: &mut Leaf, was: Entry) -> Option<Change> {
         let (fitting, kept) = fit_in_leaf(leaf, self.end, &self.search, &was);
         let change = match fitting {
@@ -73,6 +79,26 @@ impl Seek<Leaf> for Closest {
         self.fitting = Fitting::Taken(taken);
         Ok(upper)
     }
+}
+
+/// Returns the range of the place of a search that is closest to an end, in the tree of a space, or `None` if there is
+/// no place.
+pub(in crate::proved::vm_space) fn look_in_space(
+    tree: &Tree<Leaf>,
+    end: End,
+    search: &Search,
+) -> Option<RangeInclusive> {
+    if search.high < search.low {
+        return None;
+    }
+    let closest = Closest {
+        end,
+        search: *search,
+        fitting: Fitting::Absent,
+    };
+    let leaf = tree.look(&closest)?;
+    let place = place_in(leaf, end, search)?;
+    Some(place.range)
 }
 
 /// Allocates the place of a search that is closest to an end, in a tree.

@@ -12,7 +12,7 @@ use crate::rattle::{AllocError, Global};
 
 /// Returns the fit of a search that is closest to an end of a leaf, or `None` if there is none.
 #[inline(always)]
-fn fit_in(leaf: &Leaf, end: End, search: &Search) -> Option<Fit> {
+pub(in crate::proved::vm_space) fn fit_in(leaf: &Leaf, end: End, search: &Search) -> Option<Fit> {
     match end {
         End::First => leaf.first_fit_in(search.low, search.high, search.size, search.alignment),
         End::Last => leaf.last_fit_in(search.low, search.high, search.size, search.alignment),
@@ -21,7 +21,11 @@ fn fit_in(leaf: &Leaf, end: End, search: &Search) -> Option<Fit> {
 
 /// Returns the place of a search that is closest to an end of a leaf, or `None` if there is none.
 #[inline(always)]
-fn place_in(leaf: &Leaf, end: End, search: &Search) -> Option<Place> {
+pub(in crate::proved::vm_space) fn place_in(
+    leaf: &Leaf,
+    end: End,
+    search: &Search,
+) -> Option<Place> {
     let fit = fit_in(leaf, end, search)?;
     let gap = leaf.key_at(fit.index);
     let range = RangeInclusive::between(fit.start, fit.start + (search.size - 1));

@@ -7,7 +7,7 @@
 use crate::proved::vm_leaf::{Block, BlockStart, Leaf};
 use crate::proved::vm_ranges::{NodeState, RangeInclusive};
 use crate::proved::vm_space::build::build_tree;
-use crate::proved::vm_space::closest::fit_in_space;
+use crate::proved::vm_space::closest::{fit_in_space, look_in_space};
 use crate::proved::vm_space::copy::append_starts;
 use crate::proved::vm_space::exact::Exact;
 use crate::proved::vm_space::find::block_at;
@@ -153,6 +153,11 @@ impl Space {
             return None;
         }
         free_in_tree(&mut self.tree, key, count)
+    }
+
+    /// Returns the range of the place of a search that is closest to an end, or `None` if there is no place.
+    pub(in crate::proved) fn look_fit(&self, end: End, search: &Search) -> Option<RangeInclusive> {
+        look_in_space(&self.tree, end, search)
     }
 
     /// Allocates the place of a search that is closest to an end: the lowest or the highest place.

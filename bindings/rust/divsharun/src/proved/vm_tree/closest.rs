@@ -14,7 +14,7 @@ use core::mem;
 
 /// Returns true if a child of a node may have a place. Otherwise the node has none.
 #[inline(always)]
-fn may_enter<L: Leaf, S: Seek<L>>(node: &Node<L>, seek: &S) -> bool {
+pub(in crate::proved::vm_tree) fn may_enter<L: Leaf, S: Seek<L>>(node: &Node<L>, seek: &S) -> bool {
     let end = seek.end();
     let from = low_kid(&node.entries, seek.low());
     let to = kid_count(&node.entries, seek.high());

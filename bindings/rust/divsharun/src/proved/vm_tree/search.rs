@@ -22,6 +22,9 @@ pub(in crate::proved) trait Seek<L: Leaf> {
     /// Returns true if the summary of leaves does not exclude a place.
     fn fits(&self, entry: &Entry) -> bool;
 
+    /// Returns true if a leaf has a place.
+    fn has(&self, leaf: &L) -> bool;
+
     /// Changes the leaf, beside which `was` is stored, if it has a place. Returns `None` if it has none.
     /// If the leaf is a root, then `was` is not its entry.
     fn seek(&mut self, leaf: &mut L, was: Entry) -> Option<Change>;

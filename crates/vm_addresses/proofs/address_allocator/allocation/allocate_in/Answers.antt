@@ -4,7 +4,7 @@ use Rattle.vm_space.specs.Allocation.{window_of}
 use Rattle.vm_space.specs.NodeCounts.{IsSearchCount}
 use Rattle.vm_space.specs.Shape.{blocks, height_of, node_count}
 use Rattle.vm_addresses.proofs.Placing.Requests.{fit_allocation}
-use Rattle.vm_addresses.proofs.Placing.Places.{policy_of}
+use Rattle.vm_addresses.specs.Tree.Allocation.{policy_of}
 use Rattle.vm_addresses.proofs.Trees.Ends.{space_range}
 use Rattle.vm_addresses.proofs.address_allocator.allocation.allocate_in.Goals.{in-FirstMatch, in-LastMatch}
 use Rattle.vm_addresses.proofs.address_allocator.allocation.allocate_in.Goals as goal

@@ -118,7 +118,11 @@ fn allocate_exact(
 
 /// Returns the search of a request in a space.
 #[inline(always)]
-fn search_of(constraint: &Constraint, space: &RangeInclusive, can_split: bool) -> Search {
+pub(super) fn search_of(
+    constraint: &Constraint,
+    space: &RangeInclusive,
+    can_split: bool,
+) -> Search {
     let window = match constraint.window() {
         None => *space,
         Some(window) => window,

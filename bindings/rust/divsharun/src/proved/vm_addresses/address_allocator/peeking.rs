@@ -2,12 +2,13 @@
 
 //! The result of a request without a change.
 
-use super::moving::{ends_in, place_in};
+use super::allocation::search_of;
+use super::moving::ends_in;
 use super::AddressAllocator;
-use crate::proved::vm_leaf::Block;
 use crate::proved::vm_ranges::{
     AllocPolicy, Constraint, Error, NodeState, RangeInclusive, Result, SPLIT_LIMIT,
 };
+use crate::proved::vm_space::End;
 
 impl AddressAllocator {
     /// Returns `true` if a range of free addresses fills its gap.
@@ -22,35 +23,31 @@ impl AddressAllocator {
     /// changes nothing. So a monitor can check a configuration before it begins.
     ///
     /// For `ExactMatch` it descends one path of the tree for each end of the range. For the other policies it
-    /// also goes through the ranges and gaps of the window up to the result. It does not allocate.
+    /// searches as [`allocate_constraint`](Self::allocate_constraint) does. It does not allocate.
     ///
     /// # Errors
     ///
     /// Those of [`allocate_constraint`](Self::allocate_constraint) except `OutOfMemory`, in the same order.
     pub fn peek(&self, request: Constraint) -> Result<RangeInclusive> {
         match request.policy() {
-            AllocPolicy::FirstMatch => self.settle(request),
-            AllocPolicy::LastMatch => self.settle(request),
+            AllocPolicy::FirstMatch => self.settle(End::First, request),
+            AllocPolicy::LastMatch => self.settle(End::Last, request),
             AllocPolicy::ExactMatch(start) => self.peek_exact(start, request),
         }
     }
 
     /// Returns the result of a request with another policy than `ExactMatch`.
-    fn settle(&self, request: Constraint) -> Result<RangeInclusive> {
-        let Some(range) = self.chosen_place(request) else {
+    fn settle(&self, end: End, request: Constraint) -> Result<RangeInclusive> {
+        let Some(range) = self.chosen_place(end, request) else {
             return Err(Error::ResourceNotAvailable);
         };
         self.settle_at(range)
     }
 
     /// Returns the range at the place that the policy of a request chooses, or `None` if there is no place.
-    fn chosen_place(&self, request: Constraint) -> Option<RangeInclusive> {
-        match request.policy() {
-            AllocPolicy::FirstMatch => self.lowest_place(request),
-            AllocPolicy::LastMatch => self.highest_place(request),
-            // It is one of these two.
-            AllocPolicy::ExactMatch(_) => unreachable!(),
-        }
+    fn chosen_place(&self, end: End, request: Constraint) -> Option<RangeInclusive> {
+        let search = search_of(&request, &self.space, true);
+        self.tree.look_fit(end, &search)
     }
 
     /// Returns the result of a request with the policy `ExactMatch(start)`.
@@ -78,40 +75,6 @@ impl AddressAllocator {
         self.settle_at(range)
     }
 
-    /// Returns the range of a `FirstMatch` request, or `None` if there is no place for it.
-    fn lowest_place(&self, request: Constraint) -> Option<RangeInclusive> {
-        let window = window_of(&self.space(), request);
-        self.first_in(&window, request.within(window))
-    }
-
-    /// Returns the range of a `LastMatch` request, or `None` if there is no place for it.
-    fn highest_place(&self, request: Constraint) -> Option<RangeInclusive> {
-        let window = window_of(&self.space(), request);
-        self.last_in(&window, request.within(window))
-    }
-
-    /// Returns the lowest range of a request in its window, or `None` if there is no place.
-    fn first_in(&self, window: &RangeInclusive, request: Constraint) -> Option<RangeInclusive> {
-        let mut blocks = self.walk_in(window);
-        while let Some(block) = blocks.next() {
-            if let Some(range) = place_of(&block, request) {
-                return Some(range);
-            }
-        }
-        None
-    }
-
-    /// Returns the highest range of a request in its window, or `None` if there is no place.
-    fn last_in(&self, window: &RangeInclusive, request: Constraint) -> Option<RangeInclusive> {
-        let mut blocks = self.walk_in(window);
-        while let Some(block) = blocks.next_back() {
-            if let Some(range) = place_of(&block, request) {
-                return Some(range);
-            }
-        }
-        None
-    }
-
     /// Returns the range at the place that a request gets, or the error of the range.
     ///
     /// The errors are:
@@ -128,22 +91,5 @@ impl AddressAllocator {
             return Ok(range);
         }
         Err(Error::Overflow)
-    }
-}
-
-/// Returns the range of a request in a block, at the place that its policy chooses there, or `None` if the
-/// block has no place for it.
-fn place_of(block: &Block, request: Constraint) -> Option<RangeInclusive> {
-    match block.state {
-        NodeState::Allocated => None,
-        NodeState::Free => place_in(&block.key, request),
-    }
-}
-
-/// Returns the window of a request, or the space if it has none.
-fn window_of(space: &RangeInclusive, request: Constraint) -> RangeInclusive {
-    match request.window() {
-        None => *space,
-        Some(window) => window,
     }
 }

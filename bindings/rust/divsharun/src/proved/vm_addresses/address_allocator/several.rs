@@ -2,6 +2,7 @@
 
 //! Several allocations in one call: all or none.
 
+use super::conflicts::Conflict;
 use super::AddressAllocator;
 use crate::proved::vm_ranges::{Constraint, ListError, RangeInclusive};
 use crate::rattle::Global;
@@ -41,6 +42,45 @@ impl AddressAllocator {
             }
         }
         Ok(ranges)
+    }
+
+    /// Returns the [`conflict`](Self::conflict) that a request has after earlier requests of a list got their
+    /// ranges.
+    ///
+    /// It allocates these ranges and frees them again, so the same ranges are allocated as before. The shape of
+    /// the tree can differ.
+    ///
+    /// # Errors
+    ///
+    /// Those of [`allocate_all`](Self::allocate_all) for the earlier requests.
+    pub fn conflict_after(
+        &mut self,
+        alloc: Global,
+        earlier: &[Constraint],
+        request: Constraint,
+    ) -> core::result::Result<Option<Conflict>, ListError> {
+        let mut ranges = self.allocate_all(alloc, earlier)?;
+        let conflict = self.conflict(request);
+        self.free_all(&mut ranges);
+        Ok(conflict)
+    }
+
+    /// Returns the [`longest_gap_in`](Self::longest_gap_in) a window after earlier requests of a list got their
+    /// ranges, like [`conflict_after`](Self::conflict_after).
+    ///
+    /// # Errors
+    ///
+    /// Those of [`conflict_after`](Self::conflict_after).
+    pub fn longest_gap_after(
+        &mut self,
+        alloc: Global,
+        earlier: &[Constraint],
+        window: &RangeInclusive,
+    ) -> core::result::Result<Option<RangeInclusive>, ListError> {
+        let mut ranges = self.allocate_all(alloc, earlier)?;
+        let longest = self.longest_gap_in(window);
+        self.free_all(&mut ranges);
+        Ok(longest)
     }
 
     /// Frees ranges that were allocated one after the other, the last one first. This leads back to the
