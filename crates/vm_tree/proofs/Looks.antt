@@ -1,4 +1,4 @@
--- What a search that changes nothing finds in a child, as found in its node.
+-- The result of a search of a child that changes nothing is one of its node.
 use Rattle.std.proofs.Common.{◌≡◌, ℕ, List, [], ◌++◌, take, drop, suc, Option, Some, None, refl}
 use Rattle.vm_tree.specs.Entry.{Entry}
 use Rattle.vm_tree.specs.Subtree.{Subtree, leaves_of, nth_tree, over, AllOf}
@@ -33,7 +33,7 @@ pub none_beyond : {X : Type 0} (q : Seeking X) (end : End) → AllOf q.lacks (be
 none_beyond q First = tt
 none_beyond q Last = tt
 
--- What is found in a whole tree.
+-- The result of a search of a whole tree.
 pub finds_leaf : {X : Type 0} (q : Seeking X) (c d : ℕ) (s : Subtree X) (found : Option X) → Looked q c d s found → FindsLeaf q s.leaves found
 finds_leaf q c d s None h = h.none
 finds_leaf q c d s (Some leaf) h = record { before = h.before; after = h.after; was = h.home.was; none = h.home.here.none; has = h.has }

@@ -93,7 +93,7 @@ module _ {X : Type 0} (q : Seeking X) (c d : ℕ) where
     pub home : StandsAt (AtNearest s) s.leaves before leaf after
     pub has : q.lacks leaf → ⊥
 
-  -- What a search that changes nothing finds in a subtree, if it counts nodes.
+  -- The result of a search that counts nodes and changes nothing, in a subtree.
   abbrev pub Looked : Subtree X → Option X → Type 0
   Looked s None = IsVain q s.height (nodes s) c d s.leaves
   Looked s (Some leaf) = IsPlaceLeaf s leaf
@@ -106,7 +106,7 @@ pub record IsClosestLeaf {X : Type 0} (q : Seeking X) (xs : List X) (leaf : X) :
   pub none : AllOf q.lacks (beyond q.end before after)
   pub has : q.lacks leaf → ⊥
 
--- What a search that changes nothing finds in leaves.
+-- The result of a search that changes nothing, in leaves.
 abbrev pub FindsLeaf : {X : Type 0} → Seeking X → List X → Option X → Type 0
 FindsLeaf q xs None = AllOf q.lacks xs
 FindsLeaf q xs (Some leaf) = IsClosestLeaf q xs leaf
