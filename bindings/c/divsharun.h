@@ -64,9 +64,9 @@
  * Cost. Let k be the number of allocated ranges. Allocating, moving and freeing
  * a range takes time of the order of log k, and so do dvs_range_peek(), dvs_range_conflict(),
  * dvs_range_is_allocated(), dvs_range_at() and dvs_gap_at(). An alignment can make
- * the search for a range visit more gaps. A visit or list within a range or from an
- * address takes time of the order of log k, plus the number of allocated ranges and gaps up to
- * where it ends. A list of ids or devices does too, with ids, runs of freed ids, and devices.
+ * the search for a range visit more gaps. A visit or list takes time of the order of log k,
+ * plus the number of allocated ranges and gaps up to where it ends. A list of ids or devices
+ * does too, with ids, runs of freed ids, and devices.
  *
  * Calls on one id, device or range of a map take logarithmic time too, also if they skip
  * ids. An allocation in a map can also move its values, in linear time. Counts,
@@ -687,7 +687,7 @@ dvs_status dvs_free_length(const dvs_address_allocator *allocator,
  *     }
  *
  * To go through the ranges and the gaps one by one, call dvs_range_at() and dvs_gap_at()
- * with the first address of the space, and then with `range.end + 1`, up to its last one.
+ * with the first address of the space. Then call them with `range.end + 1`, up to its end.
  * Errors: DVS_NULL.
  */
 dvs_status dvs_range_list(const dvs_address_allocator *allocator, uint64_t from, dvs_range *ranges,

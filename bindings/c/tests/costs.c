@@ -12,8 +12,8 @@
 /* A multiple of 2^60. */
 #define PART(number) ((uint64_t)(number) << 60)
 
-/* Returns the processor time of this thread in nanoseconds. That of the process is rounded to a
- * tick if it has a limit. */
+/* Returns the processor time of this thread in nanoseconds. The time of the process is rounded to
+ * a tick if it has a limit. */
 static int64_t processor_time(void) {
     struct timespec time;
 
@@ -134,12 +134,14 @@ static const struct quick {
     {ID_COUNT, {0}, 0},
     {FREE_COUNT, {0}, 0},
     {ID_ENDS, {0}, 0},
+    {LIST_IDS, {NEAR(1)}, 0},
     {ID, {0}, FREE_ID},
     {ID_EXACT, {NEAR(1)}, FREE_ID},
     {ID_IN, {NEAR(2), NEAR(3)}, FREE_ID},
     {DEVICE_SLOT, {NTH}, 0},
     {DEVICE_AT, {NEAR(1)}, 0},
     {DEVICE_COUNT, {0}, 0},
+    {LIST_DEVICES, {NTH}, 0},
     {DEVICE_SPACE, {0}, 0},
     {DEVICE_IDS, {0}, 0},
     {DEVICE_CONFLICT, {0}, 0},
@@ -214,10 +216,11 @@ static int64_t time_quick(const struct quick *row, void *object, uint64_t count)
  * dvs_longest_gap() and the ends of a space or of a range of ids take constant time." */
 
 /* divsharun.h: "Let k be the number of allocated ranges. Allocating, moving and freeing a range
- * takes time of the order of log k, and so do dvs_range_conflict(), dvs_range_is_allocated(),
- * dvs_range_at() and dvs_gap_at(). An alignment can make the search for a range visit more gaps. A
- * visit or list within a range or from an address takes time of the order of log k, plus the number
- * of allocated ranges and gaps up to where it ends." */
+ * takes time of the order of log k, and so do dvs_range_peek(), dvs_range_conflict(),
+ * dvs_range_is_allocated(), dvs_range_at() and dvs_gap_at(). An alignment can make the search for a
+ * range visit more gaps. A visit or list takes time of the order of log k, plus the number of
+ * allocated ranges and gaps up to where it ends. A list of ids or devices does too, with ids, runs
+ * of freed ids, and devices." */
 
 /* Compares the shortest times in small and in large objects. */
 static void be_quick(void *const *few, void *const *lots) {
