@@ -8,12 +8,13 @@ ghost use Rattle.vm_allocator.specs.Address.{IsClear};
 ghost use Rattle.vm_allocator.specs.Allocator.{state_of, made_state};
 ghost use Rattle.vm_allocator.specs.Answer.{FillsGap};
 ghost use Rattle.vm_allocator.specs.Comparison.{state_cmp};
-ghost use Rattle.vm_allocator.specs.Conflicts.{ConflictDecides};
+ghost use Rattle.vm_allocator.specs.Conflicts.{ConflictDecides, IsConflict};
 ghost use Rattle.vm_allocator.specs.Counts.GapSearch.{SearchesGaps};
 ghost use Rattle.vm_allocator.specs.Moves.{MovesRange};
 ghost use Rattle.vm_allocator.specs.Peeks.{Peeks};
 ghost use Rattle.vm_allocator.specs.ListConflicts.{fault_at, list_error};
-ghost use Rattle.vm_allocator.specs.Queries.{block_parts, count_if, gaps_of, longest_part};
+ghost use Rattle.vm_allocator.specs.Queries.{block_parts, count_if, gaps_of, longest_part, FindsLongestPart};
+ghost use Rattle.vm_allocator.specs.Several.{IsTrueAfter};
 ghost use Rattle.vm_allocator.specs.SpaceBlocks.{blocks_of};
 ghost use Rattle.vm_allocator.specs.Alignment.{AlignsUp};
 ghost use Rattle.vm_allocator.specs.Making.{MakesRange};
@@ -115,6 +116,34 @@ fn allocate_each(alloc: Global, space: &mut AddressAllocator, requests: &[Constr
     ensures { result ≡ false → state_of space.new ≡ state_of space.old }
 {
     space.allocate_all(alloc, requests).is_ok()
+}
+
+/// Returns what is in the way of a request after earlier ones.
+fn later_conflict(
+    alloc: Global,
+    space: &mut AddressAllocator,
+    earlier: &[Constraint],
+    request: Constraint,
+) -> std::result::Result<Option<Conflict>, ListError>
+    ensures reason { IfOk result (λ conflict.
+        IsTrueAfter (state_of space.old) earlier.now (λ state. IsConflict state request conflict)) }
+    ensures state { state_of space.new ≡ state_of space.old }
+{
+    space.conflict_after(alloc, earlier, request)
+}
+
+/// Returns the longest part of a gap in a window after earlier requests.
+fn later_part(
+    alloc: Global,
+    space: &mut AddressAllocator,
+    earlier: &[Constraint],
+    window: &RangeInclusive,
+) -> std::result::Result<Option<RangeInclusive>, ListError>
+    ensures part { IfOk result (λ part. IsTrueAfter (state_of space.old) earlier.now
+        (λ state. FindsLongestPart window.now (gaps_of state) part)) }
+    ensures state { state_of space.new ≡ state_of space.old }
+{
+    space.longest_gap_after(alloc, earlier, window)
 }
 
 /// Allocates a whole gap, which needs no memory.
@@ -292,6 +321,18 @@ fn uses_of_requests(rt: HostRuntime) {
     );
     let all = allocate_each(rt.alloc(), &mut space, &[high]);
     expect_true(&rt, !all, "nor in a list");
+}
+
+#[test]
+fn uses_of_earlier_requests(rt: HostRuntime) {
+    let mut space = made(&rt, 0, 16);
+    let earlier = [upper_half(&rt)];
+    let found = later_conflict(rt.alloc(), &mut space, &earlier, earlier[0]).expect(&rt, ENOUGH);
+    let upper = Conflict::Allocated(range(&rt, 8, 15));
+    expect_eq(&rt, found, Some(upper), "the earlier range");
+    let window = range(&rt, 4, 15);
+    let part = later_part(rt.alloc(), &mut space, &earlier, &window).expect(&rt, ENOUGH);
+    expect_eq(&rt, part, Some(range(&rt, 4, 7)), "below the earlier range");
 }
 
 #[test]
