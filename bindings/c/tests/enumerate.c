@@ -610,8 +610,6 @@ static void allocate_none(void) {
     dvs_address_allocator *space = two_held();
     dvs_address_allocator *before = two_held();
     const size_t count = sizeof rows / sizeof rows[0];
-    const dvs_request second[] = {request_of(1, 1, DVS_FIRST, 0),
-                                  request_of(0x4000, 1, DVS_LAST, 0)};
     dvs_range ranges[4];
     dvs_refusal refusal;
     size_t i, failed;
@@ -645,10 +643,6 @@ static void allocate_none(void) {
         CHECK(dvs_range_visit(before, see_range, &then) == DVS_OK);
         CHECK(memcmp(&now, &then, sizeof now) == 0);
     }
-    /* The second request has no cause either, if it has no given start. */
-    CHECK(dvs_address_allocator_allocate_all(space, second, 2, ranges, &failed, &refusal) ==
-          DVS_RESOURCE_NOT_AVAILABLE);
-    CHECK(failed == 1 && refusal.cause == DVS_CAUSE_NONE && is_range(refusal.other, 0, 0));
     CHECK(dvs_address_allocator_allocate_all(space, NULL, SIZE_MAX, ranges, NULL, NULL) ==
           DVS_NULL);
     dvs_address_allocator_destroy(space);

@@ -40,9 +40,11 @@ static void fill(void) {
     /* Two leaves of 32 ranges and gaps, below a root with room. The next split allocates a leaf. */
     for (i = 1; i < 20; i++, power *= 10)
         hold(power - 1);
-    for (i = 4, power = 10000; i < 16; i++, power *= 10)
+    for (i = 4, power = 10000; i < 9; i++, power *= 10)
         hold(5 * power);
     hold(power + 1);
+    for (i = 11, power = 100000000000; i < 18; i++, power *= 10)
+        hold(5 * power);
     for (i = 0; i < 300; i++)
         CHECK(dvs_id_allocate(results.ids, &id) == DVS_OK);
     /* The runs of freed ids fill a leaf of 64. The next one needs memory. */
