@@ -89,7 +89,7 @@ MODULES = ORIGIN.format("crates.txt") + """
 """
 ATTRIBUTES_WITH_TESTS = "#![allow(dead_code, unused_assignments, unused_variables)]\n"
 # Code that only readers of values, the library for C or callers in Rattle reach, in files that the package has, and an error that no call returns.
-UNREACHED = re.compile(r"^ *(?=(?:pub fn align_(?:down|up)|Overlap)\(|pub fn set\(&mut self, address\b|pub enum ValueError\b)",
+UNREACHED = re.compile(r"^ *(?=(?:pub fn align_(?:down|up)|Overlap)\(|pub fn (?:set\(&mut self, address|longest_gap_after\()|pub enum ValueError\b)",
                        re.MULTILINE)
 # Types of the package that serde saves.
 SAVED = re.compile(r"^(?=pub enum (?:AllocPolicy|NodeState)\b)", re.MULTILINE)

@@ -38,7 +38,7 @@ CHANGED = [
 # and what the derive of `Error` stands for.
 ADDED = re.compile(
     r"#\[cfg_attr\(feature = \"serde\", derive\(serde::Serialize, serde::Deserialize\)\)\]\s(?=pub enum (?:AllocPolicy|NodeState)\b)"
-    r"|#\[allow\(dead_code\)\] (?=pub fn align_(?:down|up)\(|pub fn set\(&mut self, address\b|Overlap\(|pub enum ValueError\b)"
+    r"|#\[allow\(dead_code\)\] (?=pub fn align_(?:down|up)\(|pub fn (?:set\(&mut self, address|longest_gap_after\()|Overlap\(|pub enum ValueError\b)"
     r"|impl core::fmt::Display for \w+ \{\s+"
     r"fn fmt\(&self, f: &mut core::fmt::Formatter<'_>\) -> core::fmt::Result \{\s+"
     r"match self \{\s+(?:\w+::\w+(?:\(field_0(?:, field_1)?\))? => write!\(f, \".*\"\),\s+)+\}\s+\}\s+\}\s+"

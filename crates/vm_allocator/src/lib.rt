@@ -12,4 +12,4 @@ pub use vm_addresses::{
     DEFAULT_CONSTRAINT_ALIGN, Error, ListConflict, ListError, RangeInclusive, Ranges, RangesIn,
     ReadNodes, Result, SavedError, Side, ValueError, WrittenBlocks, WrittenNode, WrittenTree,
 };
-pub use vm_ids::{FreedIds, HeldIds, IdAllocator, IdRequest, ReadIds};
+pub use vm_ids::{FreedIds, HeldIds, HeldIdsIn, IdAllocator, IdRequest, ReadIds};

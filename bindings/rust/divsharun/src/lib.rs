@@ -73,7 +73,7 @@
 //! # Costs
 //!
 //! Let k be the number of allocated ranges. Allocating, moving and freeing a range takes time of the
-//! order of log k, and so do `conflict`, `move_conflict`, `holds`, `held_at` and `gap_at`. An alignment can make the
+//! order of log k, and so do `peek`, `conflict`, `move_conflict`, `holds`, `held_at` and `gap_at`. An alignment can make the
 //! search for a range visit more gaps. A walk within a range takes time of the order of log k, plus the
 //! number of ranges and gaps in it. Calls on one id, device or range of a map take logarithmic time, also
 //! if they skip ids. An allocation in a map can also move its values, in linear time. Counts, ends and
@@ -82,7 +82,7 @@
 //! linear time.
 //!
 //! The allocated ranges and gaps are in leaves of 280 bytes, with 12 to 32 of them in each leaf. A tree that
-//! is one leaf can have fewer. Other trees have inner nodes of 528 bytes, with 5 to 16 children each, and at
+//! is one leaf can have fewer. Other trees have inner nodes of 464 bytes, with 5 to 16 children each, and at
 //! least 2 in the root. Allocating or moving a range allocates nothing if its leaf has room. Otherwise it
 //! allocates a leaf, a node for each full node right above the leaf, one for a new root if all are full, and
 //! a list of these nodes. A move to a part of the gap that it leaves always allocates a leaf, and a list of

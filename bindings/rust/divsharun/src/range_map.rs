@@ -156,7 +156,11 @@ impl<T> RangeMap<T> {
                 &mut self.0,
                 (requests, |request| request.0, Constraint),
                 |map, requests| map.allocate_all(Global, requests),
-                |map, requests, index| map.addresses().conflict(*requests.get(index)?),
+                |map, requests, index| {
+                    let (earlier, request) = (requests.get(..index)?, *requests.get(index)?);
+                    let mut space = map.addresses().try_clone(Global).ok()?;
+                    space.conflict_after(Global, earlier, request).ok()?
+                },
             )?;
             ranges.extend(allocated.iter().map(|range| RangeInclusive(*range)));
             Ok(ranges)

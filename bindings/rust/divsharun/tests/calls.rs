@@ -726,7 +726,7 @@ fn ids_and_devices_are_taken_from_windows() {
     for first in (0..24).chain(590..602).chain([u32::MAX]) {
         for last in [
             first,
-            first + 1 - first.min(1),
+            first.saturating_add(1),
             first ^ 5,
             300,
             599,

@@ -490,7 +490,8 @@ fn map(count: u64) -> RangeMap<u64> {
 }
 
 // src/lib.rs: "Let k be the number of allocated ranges. Allocating, moving and freeing a range takes
-// time of the order of log k, and so do `conflict`, `move_conflict`, `holds`, `held_at` and `gap_at`.
+// time of the order of log k, and so do `peek`, `conflict`, `move_conflict`, `holds`, `held_at` and
+// `gap_at`.
 // An alignment can make the search for a range visit more gaps. A walk within a range takes time of
 // the order of log k, plus the number of ranges and gaps in it. Calls on one id, device or range of a
 // map take logarithmic time, also if they skip ids. An allocation in a map can also move its values, in

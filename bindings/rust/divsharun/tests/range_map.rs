@@ -112,7 +112,7 @@ impl Compared {
             .collect();
         let (mut after, mut refused) = (self.ranges.clone(), (None, None));
         let expected = list.iter().enumerate().try_for_each(|(index, (asked, _))| {
-            refused = (Some(index), self.ranges.conflict(*asked));
+            refused = (Some(index), after.conflict(*asked));
             after.held.push(after.allocate(*asked)?);
             Ok(())
         });

@@ -423,7 +423,7 @@ fn written_spaces_are_valid_and_depend_on_the_state_alone() {
         let text = serde_json::to_string(&space).unwrap();
         let value = to_proved_value(&serde_json::from_str(&text).unwrap());
         // The list of the ranges, the leaves of at most 32 blocks, and nodes of at most 16 children. They have 16
-        // bytes for a range, 280 for a leaf and 528 for a node.
+        // bytes for a range, 280 for a leaf and 464 for a node.
         let leaves = (space.held_count() + space.gap_count()).div_ceil(32);
         let nodes = match leaves {
             1 => 0,
@@ -436,7 +436,7 @@ fn written_spaces_are_valid_and_depend_on_the_state_alone() {
         same(Some(&space), Some(&read), "a space");
         let (repaired, again) = refusing(0, || AddressAllocator::read(&value).unwrap());
         assert!(repaired == read && (made, again) == (most, most));
-        let bytes_of = 16 * space.held_count() + 280 * leaves + 528 * nodes;
+        let bytes_of = 16 * space.held_count() + 280 * leaves + 464 * nodes;
         assert_eq!(bytes as u64, bytes_of);
         let held: Vec<_> = space.held_ranges().collect();
         let size = space.end() - space.base() + 1;

@@ -4,8 +4,9 @@
 //!
 //! The leaves are those of a B+ tree (`vm_tree`). A call descends to the leaf of a key, and then finds the entry in
 //! the leaf, so it takes logarithmic time. An insertion into a full leaf splits it: in half, or so that the leaf stays
-//! nearly full if keys come in order. A leaf with fewer than 16 entries is joined with one next to it if both have at
-//! most 48. The lowest entry is at the end of its leaf, so removing it moves nothing.
+//! nearly full if keys come in order. A leaf that has fewer than 16 entries after a removal is joined with one next to
+//! it if both fit in one. If the lowest id was removed, that is tried only at a few of these numbers. The lowest entry
+//! is at the end of its leaf, so removing it moves nothing.
 
 mod chunk;
 mod id_set;

@@ -71,6 +71,7 @@ impl AddressAllocator {
     /// # Errors
     ///
     /// Those of [`conflict_after`](Self::conflict_after).
+    #[allow(dead_code)]
     pub fn longest_gap_after(
         &mut self,
         alloc: Global,
