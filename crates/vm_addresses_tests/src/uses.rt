@@ -124,12 +124,15 @@ fn later_conflict(
     space: &mut AddressAllocator,
     earlier: &[Constraint],
     request: Constraint,
-) -> std::result::Result<Option<Conflict>, ListError>
+) -> Result<Option<Conflict>>
     ensures reason { IfOk result (λ conflict.
         IsTrueAfter (state_of space.old) earlier.now (λ state. IsConflict state request conflict)) }
     ensures state { state_of space.new ≡ state_of space.old }
 {
-    space.conflict_after(alloc, earlier, request)
+    match space.conflict_after(alloc, earlier, request) {
+        Ok(conflict) => Ok(conflict),
+        Err(failed) => Err(failed.error),
+    }
 }
 
 /// Returns the longest part of a gap in a window after earlier requests.
@@ -138,12 +141,15 @@ fn later_part(
     space: &mut AddressAllocator,
     earlier: &[Constraint],
     window: &RangeInclusive,
-) -> std::result::Result<Option<RangeInclusive>, ListError>
+) -> Result<Option<RangeInclusive>>
     ensures part { IfOk result (λ part. IsTrueAfter (state_of space.old) earlier.now
         (λ state. FindsLongestPart window.now (gaps_of state) part)) }
     ensures state { state_of space.new ≡ state_of space.old }
 {
-    space.longest_gap_after(alloc, earlier, window)
+    match space.longest_gap_after(alloc, earlier, window) {
+        Ok(part) => Ok(part),
+        Err(failed) => Err(failed.error),
+    }
 }
 
 /// Allocates a whole gap, which needs no memory.
